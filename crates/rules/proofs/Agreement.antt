@@ -1,0 +1,74 @@
+-- Laws of agreement: what is kept when both machines do the same to numbers that agree.
+use mathlib.Core.Path.{_≡_, refl, sym, ap, ap₂, _∙_, subst}
+use mathlib.Core.Logic.{_⊎_, inl, inr, ⊎-elim}
+use Prim.Native.Nat.{ℕ, _-_, _^_, _≤_, _<_, max}
+use native.Mathlib.Nat.{lt-of-lt-of-le}
+use native.Mathlib.Omega.{arith}
+use lib.Pow.{pow-pos, pow-mono, ones-lt}
+use lib.Bits.{bitOr, or-lt}
+use Rattle.rules.specs.Word.{bit}
+use Rattle.rules.specs.Agreement.{Agree, Alike}
+use Rattle.rules.proofs.Bits.{lt-or-ge, bit-lt, bit-zero, bit-high, bit-or, bit-ones, bits-equal}
+
+-- a number agrees with itself, whatever its shadow
+pub alike-self : {n v x : ℕ} → v < 2 ^ n → x < 2 ^ n → Alike n v x x
+unfolding Agree
+alike-self hv hx = record { shadow = hv; left = hx; right = hx; agree = λ i z. refl }
+
+-- wholly undefined numbers agree
+pub alike-undefined : (n : ℕ) {x x′ : ℕ} → x < 2 ^ n → x′ < 2 ^ n → Alike n (2 ^ n - 1) x x′
+unfolding Agree
+alike-undefined n {x} {x′} hx hx′ =
+    record {
+      shadow = ones-lt n;
+      left = hx;
+      right = hx′;
+      agree = λ i z. ⊎-elim (λ (l : i < n). absurd (omega (arith, bit-ones n i l))) (λ (l : n ≤ i). bit-high n i x hx l ∙ sym (bit-high n i x′ hx′ l)) (lt-or-ge i n);
+    }
+
+-- wholly defined numbers that agree are equal
+pub alike-defined : {n v x x′ : ℕ} → Alike n v x x′ → v ≡ 0 → x ≡ x′
+unfolding Agree
+alike-defined {n} {v} {x} {x′} a e =
+    bits-equal n x x′ (a .left) (a .right) (λ i l. a .agree i (ap (bit i) e ∙ bit-zero i))
+
+-- ZWiden: at a greater width
+pub alike-wider : {n v x x′ : ℕ} (m : ℕ) → n ≤ m → Alike n v x x′ → Alike m v x x′
+alike-wider m l a =
+    record {
+      shadow = lt-of-lt-of-le (a .shadow) (pow-mono l);
+      left = lt-of-lt-of-le (a .left) (pow-mono l);
+      right = lt-of-lt-of-le (a .right) (pow-mono l);
+      agree = a .agree;
+    }
+
+pub alike-or : {n v x x′ w y y′ : ℕ} → Alike n v x x′ → Alike n w y y′ → Alike n (bitOr v w) (bitOr x y) (bitOr x′ y′)
+unfolding Agree
+alike-or {n} {v} {x} {x′} {w} {y} {y′} a b =
+    record {
+      shadow = or-lt n v w (a .shadow) (b .shadow);
+      left = or-lt n x y (a .left) (b .left);
+      right = or-lt n x′ y′ (a .right) (b .right);
+      agree = λ i z.
+          let e : max (bit i v) (bit i w) ≡ 0 = sym (bit-or i v w) ∙ z in
+          bit-or i x y ∙ ap₂ max (a .agree i (omega arith)) (b .agree i (omega arith)) ∙ sym (bit-or i x′ y′);
+    }
+
+-- ---- bits that move
+-- bit i of what f makes of a number of n bits is one bit of that number, whichever number it is, or is always clear
+unfoldable pub Moves : ℕ → (ℕ → ℕ) → Type 0
+Moves n f = (i : ℕ) → ((j : ℕ) × ((x : ℕ) → x < 2 ^ n → bit i (f x) ≡ bit j x)) ⊎ ((x : ℕ) → x < 2 ^ n → bit i (f x) ≡ 0)
+
+pub alike-moved : {n v x x′ : ℕ} (m : ℕ) (f : ℕ → ℕ) → Moves n f → ((x : ℕ) → x < 2 ^ n → f x < 2 ^ m) → Alike n v x x′ → Alike m (f v) (f x) (f x′)
+unfolding Agree Moves
+alike-moved {n} {v} {x} {x′} m f moves range a =
+    record {
+      shadow = range v (a .shadow);
+      left = range x (a .left);
+      right = range x′ (a .right);
+      agree = λ i z.
+          ⊎-elim
+          (λ t. t .1 x (a .left) ∙ a .agree (t .0) (sym (t .1 v (a .shadow)) ∙ z) ∙ sym (t .1 x′ (a .right)))
+          (λ t. t x (a .left) ∙ sym (t x′ (a .right)))
+          (moves i);
+    }

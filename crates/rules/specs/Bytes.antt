@@ -1,0 +1,22 @@
+-- Bytes of a word, and the word of some bytes, over any number of them; the lowest byte is number 0.
+use Prim.Native.Nat.{ℕ, zero, suc, _*_, _/_, _%_, _^_}
+use mathlib.Core.List.{List}
+use lib.Bits.{bitOr}
+use lib.ListN.{length, getD}
+
+-- byte k of a number
+abbrev pub byteOf : ℕ → ℕ → ℕ
+byteOf k x = x / 2 ^ (8 * k) % 2 ^ 8
+
+-- a byte at place k
+abbrev pub placed : ℕ → ℕ → ℕ
+placed k b = b * 2 ^ (8 * k)
+
+-- the number of the n bytes f 0, f 1 and so on; the places above them are 0
+unfoldable pub joined : ℕ → (ℕ → ℕ) → ℕ
+joined zero f = 0
+joined (suc n) f = bitOr (joined n f) (placed n (f n))
+
+-- the number of a list of bytes
+abbrev pub joinOf : List ℕ → ℕ
+joinOf bs = joined (length bs) (λ k. getD bs k 0)

@@ -1,0 +1,116 @@
+// The shadow rules (document 01, "Shadow rules"), made of the Memcheck paper's abstract operations.
+// The rules of all operations have one signature: same says that both operands are one register; x
+// and y are the operands' data, v and w their V words.
+use super::Data;
+use super::Shadow;
+use super::words;
+ghost use mathlib.Core.Path.{_≡_};
+ghost use Rattle.rules.specs.Shadows.{UifU, Left, PCast, movV, addV, subV, mulV, andV, orV, xorV, shlV, shrV, sarV, eqV, ltuV};
+
+// Undefined if either is undefined.
+pub fn uifu(v: Shadow, w: Shadow) -> Shadow
+    ensures { λ r. ⌜ r .0 ≡ UifU (v .0) (w .0) ⌝ }
+{
+    Shadow(v.0 | w.0)
+}
+
+// The lowest undefined bit and all above it.
+pub fn left(v: Shadow) -> Shadow
+    ensures { λ r. ⌜ r .0 ≡ Left (v .0) ⌝ }
+{
+    Shadow(v.0 | words::negate(v.0))
+}
+
+// One bit, undefined if any bit of v is.
+pub fn pcast_bit(v: Shadow) -> Shadow
+    ensures { λ r. ⌜ r .0 ≡ PCast 1 (v .0) ⌝ }
+{
+    Shadow(words::select(v.0 == 0, 0, 1))
+}
+
+// An undefined bit of either operand reaches every bit above it by carries.
+fn carried(v: Shadow, w: Shadow) -> Shadow
+    ensures { λ r. ⌜ r .0 ≡ Left (UifU (v .0) (w .0)) ⌝ }
+{
+    left(uifu(v, w))
+}
+
+// An undefined bit of either operand leaves a comparison undefined.
+fn compared(v: Shadow, w: Shadow) -> Shadow
+    ensures { λ r. ⌜ r .0 ≡ PCast 1 (UifU (v .0) (w .0)) ⌝ }
+{
+    pcast_bit(uifu(v, w))
+}
+
+// MOV: the V word goes along.
+pub fn mov(v: Shadow) -> Shadow
+    ensures { λ r. ⌜ r .0 ≡ movV (v .0) ⌝ }
+{
+    v
+}
+
+pub fn add(same: bool, x: Data, v: Shadow, y: Data, w: Shadow) -> Shadow
+    ensures { λ r. ⌜ r .0 ≡ addV same (x .0) (v .0) (y .0) (w .0) ⌝ }
+{
+    carried(v, w)
+}
+
+pub fn sub(same: bool, x: Data, v: Shadow, y: Data, w: Shadow) -> Shadow
+    ensures { λ r. ⌜ r .0 ≡ subV same (x .0) (v .0) (y .0) (w .0) ⌝ }
+{
+    carried(v, w)
+}
+
+pub fn mul(same: bool, x: Data, v: Shadow, y: Data, w: Shadow) -> Shadow
+    ensures { λ r. ⌜ r .0 ≡ mulV same (x .0) (v .0) (y .0) (w .0) ⌝ }
+{
+    carried(v, w)
+}
+
+pub fn and(same: bool, x: Data, v: Shadow, y: Data, w: Shadow) -> Shadow
+    ensures { λ r. ⌜ r .0 ≡ andV same (x .0) (v .0) (y .0) (w .0) ⌝ }
+{
+    Shadow((v.0 | w.0) & (x.0 | v.0) & (y.0 | w.0))
+}
+
+pub fn or(same: bool, x: Data, v: Shadow, y: Data, w: Shadow) -> Shadow
+    ensures { λ r. ⌜ r .0 ≡ orV same (x .0) (v .0) (y .0) (w .0) ⌝ }
+{
+    and(same, Data(!x.0), v, Data(!y.0), w)
+}
+
+pub fn xor(same: bool, x: Data, v: Shadow, y: Data, w: Shadow) -> Shadow
+    ensures { λ r. ⌜ r .0 ≡ xorV same (x .0) (v .0) (y .0) (w .0) ⌝ }
+{
+    Shadow(words::select(same, 0, v.0 | w.0))
+}
+
+pub fn shl(same: bool, x: Data, v: Shadow, y: Data, w: Shadow) -> Shadow
+    ensures { λ r. ⌜ r .0 ≡ shlV same (x .0) (v .0) (y .0) (w .0) ⌝ }
+{
+    Shadow(words::select(w.0 == 0, words::shift_left(v.0, y.0), u32::MAX))
+}
+
+pub fn shr(same: bool, x: Data, v: Shadow, y: Data, w: Shadow) -> Shadow
+    ensures { λ r. ⌜ r .0 ≡ shrV same (x .0) (v .0) (y .0) (w .0) ⌝ }
+{
+    Shadow(words::select(w.0 == 0, words::shift_right(v.0, y.0), u32::MAX))
+}
+
+pub fn sar(same: bool, x: Data, v: Shadow, y: Data, w: Shadow) -> Shadow
+    ensures { λ r. ⌜ r .0 ≡ sarV same (x .0) (v .0) (y .0) (w .0) ⌝ }
+{
+    Shadow(words::select(w.0 == 0, words::shift_right_signed(v.0, y.0), u32::MAX))
+}
+
+pub fn eq(same: bool, x: Data, v: Shadow, y: Data, w: Shadow) -> Shadow
+    ensures { λ r. ⌜ r .0 ≡ eqV same (x .0) (v .0) (y .0) (w .0) ⌝ }
+{
+    compared(v, w)
+}
+
+pub fn ltu(same: bool, x: Data, v: Shadow, y: Data, w: Shadow) -> Shadow
+    ensures { λ r. ⌜ r .0 ≡ ltuV same (x .0) (v .0) (y .0) (w .0) ⌝ }
+{
+    compared(v, w)
+}
