@@ -1,30 +1,33 @@
 -- Laws of agreement: what is kept when both machines do the same to numbers that agree.
-use mathlib.Core.Path.{_≡_, refl, sym, ap, ap₂, _∙_, subst}
-use mathlib.Core.Logic.{_⊎_, inl, inr, ⊎-elim}
+use mathlib.Core.Path.{_≡_, refl, sym, ap, ap₂, _∙_}
+use mathlib.Core.Logic.{_⊎_, ⊎-elim}
 use Prim.Native.Nat.{ℕ, _-_, _^_, _≤_, _<_, max}
 use native.Mathlib.Nat.{lt-of-lt-of-le}
 use native.Mathlib.Omega.{arith}
-use lib.Pow.{pow-pos, pow-mono, ones-lt}
+use lib.Pow.{pow-mono, ones-lt}
 use lib.Bits.{bitOr, or-lt}
 use Rattle.rules.specs.Word.{bit}
 use Rattle.rules.specs.Agreement.{Agree, Alike}
-use Rattle.rules.proofs.Bits.{lt-or-ge, bit-lt, bit-zero, bit-high, bit-or, bit-ones, bits-equal}
+use Rattle.rules.proofs.Bits.{lt-or-ge, bit-zero, bit-high, bit-or, bit-ones, bits-equal}
+
+-- it is enough to look at the n low bits
+pub alike-below : (n : ℕ) {v x x′ : ℕ} → v < 2 ^ n → x < 2 ^ n → x′ < 2 ^ n → ((i : ℕ) → i < n → bit i v ≡ 0 → bit i x ≡ bit i x′) → Alike n v x x′
+unfolding Agree
+alike-below n {v} {x} {x′} hv hx hx′ same =
+    record {
+      shadow = hv;
+      left = hx;
+      right = hx′;
+      agree = λ i z. ⊎-elim (λ (l : i < n). same i l z) (λ (l : n ≤ i). bit-high n i x hx l ∙ sym (bit-high n i x′ hx′ l)) (lt-or-ge i n);
+    }
 
 -- a number agrees with itself, whatever its shadow
 pub alike-self : {n v x : ℕ} → v < 2 ^ n → x < 2 ^ n → Alike n v x x
-unfolding Agree
-alike-self hv hx = record { shadow = hv; left = hx; right = hx; agree = λ i z. refl }
+alike-self {n} hv hx = alike-below n hv hx hx (λ i l z. refl)
 
 -- wholly undefined numbers agree
 pub alike-undefined : (n : ℕ) {x x′ : ℕ} → x < 2 ^ n → x′ < 2 ^ n → Alike n (2 ^ n - 1) x x′
-unfolding Agree
-alike-undefined n {x} {x′} hx hx′ =
-    record {
-      shadow = ones-lt n;
-      left = hx;
-      right = hx′;
-      agree = λ i z. ⊎-elim (λ (l : i < n). absurd (omega (arith, bit-ones n i l))) (λ (l : n ≤ i). bit-high n i x hx l ∙ sym (bit-high n i x′ hx′ l)) (lt-or-ge i n);
-    }
+alike-undefined n hx hx′ = alike-below n (ones-lt n) hx hx′ (λ i l z. absurd (omega (arith, bit-ones n i l)))
 
 -- wholly defined numbers that agree are equal
 pub alike-defined : {n v x x′ : ℕ} → Alike n v x x′ → v ≡ 0 → x ≡ x′

@@ -1,5 +1,5 @@
 -- The bits of a number, and of what the operations on numbers give.
-use mathlib.Core.Path.{_≡_, refl, sym, ap, ap₂, _∙_, subst}
+use mathlib.Core.Path.{_≡_, sym, ap, ap₂, _∙_, subst}
 use mathlib.Core.Logic.{_⊎_, inl, inr, ⊎-elim}
 use mathlib.Core.Bool.{Bool, true, false, cond}
 use Prim.Native.Nat.{ℕ, zero, suc, _+_, _-_, _*_, _/_, _%_, _^_, _≤_, _<_, min, max}
@@ -19,6 +19,11 @@ lt-or-ge a b = go (decLt a b)
     go : Dec (a < b) → (a < b) ⊎ (b ≤ a)
     go (yes h) = inl h
     go (no h) = inr (omega arith)
+
+-- a choice of two small numbers is small
+pub cond-lt : (t : Bool) {a b n : ℕ} → a < n → b < n → cond t a b < n
+cond-lt true ha hb = ha
+cond-lt false ha hb = hb
 
 pub bit-lt : (i x : ℕ) → bit i x < 2
 unfolding bit
@@ -142,3 +147,7 @@ bit-copies i j mask x = ⊎-elim (λ (z : bit j x ≡ 0). at 0 z ∙ bit-zero i 
   where
     at : (b : ℕ) → bit j x ≡ b → bit i (cond (eqb (bit j x) 1) mask 0) ≡ bit i (cond (eqb b 1) mask 0)
     at b e = ap (λ (n : ℕ). bit i (cond (eqb n 1) mask 0)) e
+
+pub copies-lt : (j x : ℕ) {mask n : ℕ} → mask < n → copies j mask x < n
+unfolding copies
+copies-lt j x h = cond-lt (eqb (bit j x) 1) h (omega arith)

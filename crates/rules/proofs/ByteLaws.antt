@@ -1,14 +1,13 @@
 -- Bytes of a number and the number of some bytes: each undoes the other, and both keep the agreement, over any number of bytes.
-use mathlib.Core.Path.{_≡_, refl, sym, ap, ap₂, _∙_, subst}
+use mathlib.Core.Path.{_≡_, sym, ap, _∙_, subst}
 use mathlib.Core.Logic.{_⊎_, inl, inr, ⊎-elim}
-use Prim.Native.Nat.{ℕ, zero, suc, _+_, _-_, _*_, _/_, _%_, _^_, _≤_, _<_, max}
+use Prim.Native.Nat.{ℕ, zero, suc, _+_, _-_, _*_, _/_, _%_, _^_, _≤_, _<_}
 use native.Mathlib.Nat.{mod-lt, mod-eq-of-lt, div-eq-of-lt, lt-of-lt-of-le}
 use native.Mathlib.Omega.{arith}
 use lib.Pow.{pow-pos, pow-mono, shl-lt, shl-exact, high, low, field, mod-mod-pow, mod-pow-add}
-use lib.Bits.{bitOr, or-lt, or-shifted-r}
-use Rattle.rules.specs.Word.{bit}
+use lib.Bits.{or-lt, or-shifted-r}
 use Rattle.rules.specs.Bytes.{byteOf, placed, joined}
-use Rattle.rules.specs.Agreement.{Agree, Alike}
+use Rattle.rules.specs.Agreement.{Alike}
 use Rattle.rules.proofs.Bits.{lt-or-ge, bit-mod, bit-high, bit-shr, bit-shl-low, bit-shl-high}
 use Rattle.rules.proofs.Agreement.{alike-self, alike-wider, alike-or, Moves, alike-moved}
 

@@ -1,9 +1,9 @@
 -- Sums, differences and products of numbers that are equal modulo m are equal modulo m.
 use mathlib.Core.Path.{_≡_, refl, sym, ap, ap₂, _∙_, subst}
 use Prim.Native.Nat.{ℕ, zero, suc, _+_, _-_, _*_, _/_, _%_, _^_, _≤_, _<_}
-use native.Mathlib.Nat.{add-mod, mod-add-mod, add-mul-mod-self-right, mul-add-mod-self-right, div-add-mod', mul-comm}
+use native.Mathlib.Nat.{mod-lt, add-mod, mod-add-mod, add-mul-mod-self-right, mul-add-mod-self-right, div-add-mod', mul-comm}
 use native.Mathlib.Omega.{arith}
-use lib.Pow.{mod-mod-pow}
+use lib.Pow.{pow-pos, mod-mod-pow}
 use Rattle.rules.specs.Word.{wrapped}
 
 pub add-same : (m x x′ y y′ : ℕ) → x % m ≡ x′ % m → y % m ≡ y′ % m → (x + y) % m ≡ (x′ + y′) % m
@@ -44,6 +44,9 @@ rest-same m n y y′ pos h h′ e =
   where
     back : (z : ℕ) → z ≤ n → n - z + z ≡ n
     back z l = omega arith
+
+pub wrapped-lt : (n : ℕ) → wrapped n < 2 ^ 32
+wrapped-lt n = mod-lt n (pow-pos 32)
 
 -- the low digits of a wrapped number are the number's own
 pub wrapped-low : (k n : ℕ) → k ≤ 32 → wrapped n % 2 ^ k ≡ n % 2 ^ k

@@ -1,7 +1,11 @@
 pub mod Product
 pub mod Bits
-pub mod Agreement
 pub mod Congruence
-pub mod Sound
+pub mod Agreement
 pub mod ByteLaws
+pub mod Carry
+pub mod Bitwise
+pub mod Shift
+pub mod Compare
+pub mod Sound
 pub mod Pinned

@@ -1,8 +1,6 @@
 -- The pinned cases hold: one test that is computed over the whole table, and a lemma that turns it into the rows' equations.
-use mathlib.Core.Path.{_≡_}
 use mathlib.Core.Bool.{Bool, true, false, _&&_}
 use mathlib.Core.List.{List, [], _∷_}
-use Prim.Native.Nat.{ℕ}
 use lib.Dec.{T, eqb, eqb→eq}
 use Rattle.rules.specs.Word.{bit, copies}
 use Rattle.rules.specs.Shadows.{Left}
