@@ -16,8 +16,8 @@ unfolding Agree
 alike-below n {v} {x} {x′} hv hx hx′ same =
     record {
       shadow = hv;
-      left = hx;
-      right = hx′;
+      first = hx;
+      second = hx′;
       agree = λ i z. ⊎-elim (λ (l : i < n). same i l z) (λ (l : n ≤ i). bit-high n i x hx l ∙ sym (bit-high n i x′ hx′ l)) (lt-or-ge i n);
     }
 
@@ -33,15 +33,15 @@ alike-undefined n hx hx′ = alike-below n (ones-lt n) hx hx′ (λ i l z. absur
 pub alike-defined : {n v x x′ : ℕ} → Alike n v x x′ → v ≡ 0 → x ≡ x′
 unfolding Agree
 alike-defined {n} {v} {x} {x′} a e =
-    bits-equal n x x′ (a .left) (a .right) (λ i l. a .agree i (ap (bit i) e ∙ bit-zero i))
+    bits-equal n x x′ (a .first) (a .second) (λ i l. a .agree i (ap (bit i) e ∙ bit-zero i))
 
 -- ZWiden: at a greater width
 pub alike-wider : {n v x x′ : ℕ} (m : ℕ) → n ≤ m → Alike n v x x′ → Alike m v x x′
 alike-wider m l a =
     record {
       shadow = lt-of-lt-of-le (a .shadow) (pow-mono l);
-      left = lt-of-lt-of-le (a .left) (pow-mono l);
-      right = lt-of-lt-of-le (a .right) (pow-mono l);
+      first = lt-of-lt-of-le (a .first) (pow-mono l);
+      second = lt-of-lt-of-le (a .second) (pow-mono l);
       agree = a .agree;
     }
 
@@ -50,8 +50,8 @@ unfolding Agree
 alike-or {n} {v} {x} {x′} {w} {y} {y′} a b =
     record {
       shadow = or-lt n v w (a .shadow) (b .shadow);
-      left = or-lt n x y (a .left) (b .left);
-      right = or-lt n x′ y′ (a .right) (b .right);
+      first = or-lt n x y (a .first) (b .first);
+      second = or-lt n x′ y′ (a .second) (b .second);
       agree = λ i z.
           let e : max (bit i v) (bit i w) ≡ 0 = sym (bit-or i v w) ∙ z in
           bit-or i x y ∙ ap₂ max (a .agree i (omega arith)) (b .agree i (omega arith)) ∙ sym (bit-or i x′ y′);
@@ -67,11 +67,11 @@ unfolding Agree Moves
 alike-moved {n} {v} {x} {x′} m f moves range a =
     record {
       shadow = range v (a .shadow);
-      left = range x (a .left);
-      right = range x′ (a .right);
+      first = range x (a .first);
+      second = range x′ (a .second);
       agree = λ i z.
           ⊎-elim
-          (λ t. t .1 x (a .left) ∙ a .agree (t .0) (sym (t .1 v (a .shadow)) ∙ z) ∙ sym (t .1 x′ (a .right)))
-          (λ t. t x (a .left) ∙ sym (t x′ (a .right)))
+          (λ t. t .1 x (a .first) ∙ a .agree (t .0) (sym (t .1 v (a .shadow)) ∙ z) ∙ sym (t .1 x′ (a .second)))
+          (λ t. t x (a .first) ∙ sym (t x′ (a .second)))
           (moves i);
     }

@@ -37,9 +37,9 @@ pub and-sound : Sound andOf andV
 unfolding Sound Agree
 and-sound same x v x′ y w y′ _ a b =
     record {
-      shadow = and-rule-lt same x v y w (a .left) (a .shadow) (b .left) (b .shadow);
-      left = and-lt 32 x y (a .left) (b .left);
-      right = and-lt 32 x′ y′ (a .right) (b .right);
+      shadow = and-rule-lt same x v y w (a .first) (a .shadow) (b .first) (b .shadow);
+      first = and-lt 32 x y (a .first) (b .first);
+      second = and-lt 32 x′ y′ (a .second) (b .second);
       agree = λ i z.
           bit-and i x y
           ∙ and-bit (bit i v) (bit i w) (bit i x) (bit i x′) (bit i y) (bit i y′) (a .agree i) (b .agree i) (sym (and-rule i x v y w same) ∙ z)
@@ -52,7 +52,7 @@ alike-inverted : {v x x′ : ℕ} → Alike 32 v x x′ → Alike 32 v (inverted
 unfolding Agree
 alike-inverted {v} {x} {x′} a =
     alike-below 32 (a .shadow) (omega arith) (omega arith)
-    (λ i l z. bit-not 32 i x l (a .left) ∙ ap (λ (b : ℕ). 1 - b) (a .agree i z) ∙ sym (bit-not 32 i x′ l (a .right)))
+    (λ i l z. bit-not 32 i x l (a .first) ∙ ap (λ (b : ℕ). 1 - b) (a .agree i z) ∙ sym (bit-not 32 i x′ l (a .second)))
 
 -- an OR is the inverse of the AND of the inverses
 or-by-and : (x y : ℕ) → x < 2 ^ 32 → y < 2 ^ 32 → inverted (andOf (inverted x) (inverted y)) ≡ orOf x y
@@ -64,7 +64,7 @@ or-by-and x y hx hy =
 pub or-sound : Sound orOf orV
 unfolding Sound
 or-sound same x v x′ y w y′ one a b =
-    subst₂ (λ (z z′ : ℕ). Alike 32 (orV same x v y w) z z′) (or-by-and x y (a .left) (b .left)) (or-by-and x′ y′ (a .right) (b .right))
+    subst₂ (λ (z z′ : ℕ). Alike 32 (orV same x v y w) z z′) (or-by-and x y (a .first) (b .first)) (or-by-and x′ y′ (a .second) (b .second))
     (alike-inverted
     (and-sound same (inverted x) v (inverted x′) (inverted y) w (inverted y′) (λ e. (ap inverted (one e .0), ap inverted (one e .1))) (alike-inverted a) (alike-inverted b)))
 
@@ -79,8 +79,8 @@ xor-sound true x v x′ y w y′ one a b =
 xor-sound false x v x′ y w y′ _ a b =
     record {
       shadow = or-lt 32 v w (a .shadow) (b .shadow);
-      left = xor-lt 32 x y (a .left) (b .left);
-      right = xor-lt 32 x′ y′ (a .right) (b .right);
+      first = xor-lt 32 x y (a .first) (b .first);
+      second = xor-lt 32 x′ y′ (a .second) (b .second);
       agree = λ i z.
           let e : max (bit i v) (bit i w) ≡ 0 = sym (bit-or i v w) ∙ z in
           bit-xor i x y ∙ ap₂ differ (a .agree i (omega arith)) (b .agree i (omega arith)) ∙ sym (bit-xor i x′ y′);

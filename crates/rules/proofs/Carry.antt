@@ -67,7 +67,7 @@ carries-sound f carries range same x v x′ y w y′ _ a b =
     alike-below 32 (or-lt 32 (UifU v w) (negated (UifU v w)) u-lt (wrapped-lt (2 ^ 32 - UifU v w))) (range x y) (range x′ y′)
     (λ i l z.
     bit-same i (f x y) (f x′ y′)
-    (carries (suc i) x x′ y y′ l (b .left) (b .right)
+    (carries (suc i) x x′ y y′ l (b .first) (b .second)
     (low-same (suc i) x x′ (λ j h. a .agree j (omega (arith, both i j l h z))))
     (low-same (suc i) y y′ (λ j h. b .agree j (omega (arith, both i j l h z))))))
   where

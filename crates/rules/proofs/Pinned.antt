@@ -5,7 +5,7 @@ use lib.Dec.{T, eqb, eqb→eq}
 use Rattle.rules.specs.Word.{bit, copies}
 use Rattle.rules.specs.Shadows.{Left}
 use Rattle.rules.specs.Operations.{actionOf, shadowOf}
-use Rattle.rules.specs.Pinned.{Row, case, left, pinned, Holds, AllHold}
+use Rattle.rules.specs.Pinned.{Row, does, left, pinned, Holds, AllHold}
 
 -- both tests pass
 split : (s t : Bool) → T (s && t) → T s × T t
@@ -13,7 +13,7 @@ split true t p = (tt, p)
 split false t p = absurd p
 
 abbrev test : Row → Bool
-test (case o same x v y w z u) = eqb (actionOf o x y) z && eqb (shadowOf o same x v y w) u
+test (does o same x v y w z u) = eqb (actionOf o x y) z && eqb (shadowOf o same x v y w) u
 test (left v u) = eqb (Left v) u
 
 abbrev testAll : List Row → Bool
@@ -21,7 +21,7 @@ testAll [] = true
 testAll (r ∷ rs) = test r && testAll rs
 
 holds : (r : Row) → T (test r) → Holds r
-holds (case o same x v y w z u) t =
+holds (does o same x v y w z u) t =
     let p : T (eqb (actionOf o x y) z) × T (eqb (shadowOf o same x v y w) u) = split (eqb (actionOf o x y) z) (eqb (shadowOf o same x v y w) u) t in
     (eqb→eq (actionOf o x y) z (p .0), eqb→eq (shadowOf o same x v y w) u (p .1))
 holds (left v u) t = eqb→eq (Left v) u t

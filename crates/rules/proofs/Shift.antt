@@ -25,7 +25,7 @@ shift-sound f moves range same x v x′ y w y′ _ a b = go (eqb w 0) refl
     go true e =
         subst (λ (n : ℕ). Alike 32 (f v y) (f x y) (f x′ n)) (alike-defined b (eqb-true w 0 e))
         (alike-moved 32 (λ z. f z y) (moves y) (λ z h. range z y h) a)
-    go false e = alike-undefined 32 (range x y (a .left)) (range x′ y′ (a .right))
+    go false e = alike-undefined 32 (range x y (a .first)) (range x′ y′ (a .second))
 
 pub shl-moves : (y : ℕ) → Moves 32 (λ x. shlOf x y)
 unfolding Moves

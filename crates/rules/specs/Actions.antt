@@ -1,14 +1,14 @@
--- What each operation does to data (01, the instruction table). x is register a, y the second operand B.
+-- What each operation does to data (01, the table of instructions, ops 1 to 12). x is register a, y the second operand, B.
 use Prim.Native.Nat.{ℕ, _+_, _-_, _*_, _/_, _%_, _^_}
 use lib.Bits.{bitAnd, bitOr, bitXor}
 use lib.Dec.{eqb, ltb}
 use Rattle.rules.specs.Word.{wrapped, allOnes, inverted, oneIf, copies}
 
--- MOV: copy
+-- MOV copies B
 abbrev pub movOf : ℕ → ℕ
 movOf y = y
 
--- ADD, SUB, MUL: modulo 4,294,967,296
+-- ADD, SUB and MUL, modulo 4,294,967,296
 abbrev pub addOf : ℕ → ℕ → ℕ
 addOf x y = wrapped (x + y)
 
@@ -18,7 +18,7 @@ subOf x y = wrapped (x + (2 ^ 32 - y))
 abbrev pub mulOf : ℕ → ℕ → ℕ
 mulOf x y = wrapped (x * y)
 
--- AND, OR, XOR: bitwise
+-- AND, OR and XOR, bit by bit
 abbrev pub andOf : ℕ → ℕ → ℕ
 andOf x y = bitAnd x y
 
@@ -28,11 +28,11 @@ orOf x y = bitOr x y
 abbrev pub xorOf : ℕ → ℕ → ℕ
 xorOf x y = bitXor x y
 
--- the amount is the operand's value modulo 32
+-- how far B shifts: its value modulo 32 (01, "Shadow rules", Shifts)
 abbrev pub amountOf : ℕ → ℕ
 amountOf y = y % 32
 
--- SHL, SHR, SAR: left, logical right, arithmetic right
+-- SHL and SHR: left, and right with zeros coming in
 abbrev pub shlOf : ℕ → ℕ → ℕ
 shlOf x y = wrapped (x * 2 ^ amountOf y)
 
@@ -43,10 +43,11 @@ shrOf x y = x / 2 ^ amountOf y
 abbrev pub freed : ℕ → ℕ
 freed y = inverted (shrOf allOnes y)
 
+-- SAR: right with copies of the top bit coming in
 abbrev pub sarOf : ℕ → ℕ → ℕ
 sarOf x y = bitOr (shrOf x y) (copies 31 (freed y) x)
 
--- EQ, LTU: 1 if a equals B, or a is below B unsigned; else 0
+-- EQ and LTU (unsigned): 1 or 0
 abbrev pub eqOf : ℕ → ℕ → ℕ
 eqOf x y = oneIf (eqb x y)
 

@@ -1,4 +1,4 @@
--- Bytes of a word, and the word of some bytes, over any number of them; the lowest byte is number 0.
+-- The bytes of a number, and the number of some bytes, over any number of them. Byte 0 is the lowest (01: little-endian).
 use Prim.Native.Nat.{ℕ, zero, suc, _*_, _/_, _%_, _^_}
 use mathlib.Core.List.{List}
 use lib.Bits.{bitOr}
@@ -12,7 +12,7 @@ byteOf k x = x / 2 ^ (8 * k) % 2 ^ 8
 abbrev pub placed : ℕ → ℕ → ℕ
 placed k b = b * 2 ^ (8 * k)
 
--- the number of the n bytes f 0, f 1 and so on; the places above them are 0
+-- the number of the n bytes f 0, f 1, .. ; every place above them is 0, so that fewer than four bytes are zero-widened
 unfoldable pub joined : ℕ → (ℕ → ℕ) → ℕ
 joined zero f = 0
 joined (suc n) f = bitOr (joined n f) (placed n (f n))

@@ -1,5 +1,5 @@
--- The shadow rules (01, "Shadow rules"). v and w are the operands' V words, x and y their data; a V bit is 1 where the data bit is undefined.
--- The abstract operations have the names that 000, section 2.5, gives them.
+-- The shadow rules (01, "Shadow rules"). v and w are the operands' V words, x and y their data. A V bit is 1 where the data bit is undefined.
+-- UifU, Left, PCast and ZWiden are the abstract operations of 000, section 2.5; the rules that are made of them are in its section 2.6.
 use Prim.Native.Nat.{ℕ, _-_, _^_}
 use mathlib.Core.Bool.{Bool, cond}
 use lib.Bits.{bitAnd, bitOr}
@@ -7,31 +7,31 @@ use lib.Dec.{eqb}
 use Rattle.rules.specs.Word.{allOnes, inverted, negated}
 use Rattle.rules.specs.Actions.{shlOf, shrOf, sarOf}
 
--- undefined if either is undefined
+-- undefined where either is
 abbrev pub UifU : ℕ → ℕ → ℕ
 UifU v w = bitOr v w
 
--- the lowest undefined bit and all above it
+-- undefined from the lowest undefined bit upwards (`left-clear` of proofs/Carry.antt shows that it is)
 abbrev pub Left : ℕ → ℕ
 Left v = bitOr v (negated v)
 
--- n bits, all undefined if any bit of v is
+-- n bits, all undefined if a single bit of v is
 abbrev pub PCast : ℕ → ℕ → ℕ
 PCast n v = cond (eqb v 0) 0 (2 ^ n - 1)
 
--- wider, the new places defined: the number stays
+-- wider, with zeros in the new places, which says defined: as a number it stays what it is
 abbrev pub ZWiden : ℕ → ℕ
 ZWiden v = v
 
--- Every rule has one signature. The Bool says that a and B are the same register.
+-- One signature for the rules of all operations on two operands. The Bool says that a and B are the same register.
 abbrev pub Rule : Type 0
 Rule = Bool → ℕ → ℕ → ℕ → ℕ → ℕ
 
--- MOV, which has one operand: v
+-- MOV has one operand (01; 000, 2.6, data copying)
 abbrev pub movV : ℕ → ℕ
 movV v = v
 
--- ADD, SUB, MUL: Left(v or w)
+-- ADD, SUB, MUL (01; 000, 2.6, addition and subtraction): carries may reach every bit above
 abbrev pub addV : Rule
 addV same x v y w = Left (UifU v w)
 
@@ -41,19 +41,19 @@ subV same x v y w = Left (UifU v w)
 abbrev pub mulV : Rule
 mulV same x v y w = Left (UifU v w)
 
--- AND: (v or w) and (x or v) and (y or w)
+-- AND (01; 000, 2.6; not the table of 002, which lacks the last term): a defined 0 on either side settles the bit
 abbrev pub andV : Rule
 andV same x v y w = bitAnd (bitAnd (UifU v w) (bitOr x v)) (bitOr y w)
 
--- OR: the same with x and y inverted
+-- OR (01; 000, 2.6): a defined 1 does
 abbrev pub orV : Rule
 orV same x v y w = andV same (inverted x) v (inverted y) w
 
--- XOR: v or w; but if a and B are the same register, V is 0 (000, section 2.8)
+-- XOR (01; 000, 2.6; of a register with itself 000, 2.8): 0 whatever was in it
 abbrev pub xorV : Rule
 xorV same x v y w = cond same 0 (UifU v w)
 
--- SHL, SHR, SAR: if w is not 0, all ones; else v shifted the same way by the same amount
+-- SHL, SHR, SAR (01; 000, 2.6): by a defined amount V moves as the data does, by any other nothing is defined
 abbrev pub shiftV : (ℕ → ℕ → ℕ) → Rule
 shiftV f same x v y w = cond (eqb w 0) (f v y) allOnes
 
@@ -66,7 +66,7 @@ shrV = shiftV shrOf
 abbrev pub sarV : Rule
 sarV = shiftV sarOf
 
--- EQ, LTU: 1 if v or w is not 0, else 0; the upper 31 bits are defined
+-- EQ, LTU (01; 000, 2.5, narrowing casts): bit 0 is undefined if a single bit of either is; the other 31 are defined
 abbrev pub eqV : Rule
 eqV same x v y w = ZWiden (PCast 1 (UifU v w))
 

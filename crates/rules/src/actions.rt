@@ -23,11 +23,14 @@ pub fn sub(x: Data, y: Data) -> Data
     Data(std::num::wrapping_sub_u32(x.0, y.0))
 }
 
+// As many words as there are: arithmetic is modulo this.
+const WORDS: u64 = 0x1_0000_0000;
+
 // The product, wrapped.
 fn wrapping_mul(x: u32, y: u32) -> u32
     ensures { λ r. ⌜ r ≡ mulOf x y ⌝ }
 {
-    ((x as u64 * y as u64) % 4294967296) as u32
+    ((x as u64 * y as u64) % WORDS) as u32
 }
 
 pub fn mul(x: Data, y: Data) -> Data

@@ -1,10 +1,10 @@
-// The bytes of a word, and the word of some bytes, the lowest first. They serve data and V bits alike.
+// The bytes of a word, and the word of some bytes, the lowest first: for data and V bits alike.
 ghost use mathlib.Core.Path.{_≡_};
 ghost use mathlib.Core.List.{[], _∷_};
 ghost use Rattle.rules.specs.Shadows.{ZWiden};
 ghost use Rattle.rules.specs.Bytes.{byteOf, joinOf};
 
-// A byte as a word: the new places are 0, and as V bits defined.
+// ZWiden of a byte to a word: the new places are 0, which of V bits says defined.
 pub fn zwiden(b: u8) -> u32
     ensures { λ r. ⌜ r ≡ ZWiden b ⌝ }
 {

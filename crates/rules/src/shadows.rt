@@ -1,27 +1,28 @@
-// The shadow rules (document 01, "Shadow rules"), made of the Memcheck paper's abstract operations.
-// The rules of all operations have one signature: same says that both operands are one register; x
-// and y are the operands' data, v and w their V words.
+// The shadow rules (document 01, "Shadow rules"). The first three functions are abstract operations
+// of the Memcheck paper, under its names; ZWiden is in bytes.rt. The rules of the operations on two
+// operands have one signature: same says that both operands are one register; x and y are their data,
+// v and w their V words. A rule may leave some of these unread.
 use super::Data;
 use super::Shadow;
 use super::words;
 ghost use mathlib.Core.Path.{_≡_};
 ghost use Rattle.rules.specs.Shadows.{UifU, Left, PCast, movV, addV, subV, mulV, andV, orV, xorV, shlV, shrV, sarV, eqV, ltuV};
 
-// Undefined if either is undefined.
+// UifU: undefined where either is.
 pub fn uifu(v: Shadow, w: Shadow) -> Shadow
     ensures { λ r. ⌜ r .0 ≡ UifU (v .0) (w .0) ⌝ }
 {
     Shadow(v.0 | w.0)
 }
 
-// The lowest undefined bit and all above it.
+// Left: undefined from the lowest undefined bit upwards.
 pub fn left(v: Shadow) -> Shadow
     ensures { λ r. ⌜ r .0 ≡ Left (v .0) ⌝ }
 {
     Shadow(v.0 | words::negate(v.0))
 }
 
-// One bit, undefined if any bit of v is.
+// PCast to one bit: undefined if a single bit of v is.
 pub fn pcast_bit(v: Shadow) -> Shadow
     ensures { λ r. ⌜ r .0 ≡ PCast 1 (v .0) ⌝ }
 {

@@ -4,6 +4,11 @@ ghost use mathlib.Core.Bool.{cond};
 ghost use Rattle.rules.specs.Word.{negated, copies};
 ghost use Rattle.rules.specs.Actions.{amountOf, shlOf, shrOf, sarOf, freed};
 
+// The bits of a word, and the place of the top one.
+const WIDTH: u32 = 32;
+
+const TOP: u32 = 31;
+
 // The word a where t holds, else b.
 pub fn select(t: bool, a: u32, b: u32) -> u32
     ensures { λ r. ⌜ r ≡ cond t a b ⌝ }
@@ -22,14 +27,14 @@ pub fn negate(v: u32) -> u32
 fn copies_of_top(mask: u32, x: u32) -> u32
     ensures { λ r. ⌜ r ≡ copies 31 mask x ⌝ }
 {
-    select(x >> 31 == 1, mask, 0)
+    select(x >> TOP == 1, mask, 0)
 }
 
-// A shift's amount: the operand's value modulo 32.
+// A shift's amount: the operand's value modulo the bits of a word.
 fn amount(y: u32) -> u32
     ensures { λ r. ⌜ r ≡ amountOf y ⌝ }
 {
-    y % 32
+    y % WIDTH
 }
 
 pub fn shift_left(x: u32, y: u32) -> u32
