@@ -12,7 +12,7 @@ byteOf k x = x / 2 ^ (8 * k) % 2 ^ 8
 abbrev pub placed : ℕ → ℕ → ℕ
 placed k b = b * 2 ^ (8 * k)
 
--- the number of the n bytes f 0, f 1, .. ; every place above them is 0, so that fewer than four bytes are zero-widened
+-- the number of the n bytes f 0, f 1, .. ; the places above them are 0 (`joined-lt`), so that fewer than four bytes come out zero-widened
 unfoldable pub joined : ℕ → (ℕ → ℕ) → ℕ
 joined zero f = 0
 joined (suc n) f = bitOr (joined n f) (placed n (f n))

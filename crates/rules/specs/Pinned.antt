@@ -1,21 +1,24 @@
--- The cases on words that document 01 pins, as one table: those that it marks P, and its product.
+-- Cases on words, worked out by hand from document 01, as one table. First come those that it pins: all that it marks P, and its product.
+-- The rest are ours: rows for every operation that the likely slips would break, of its action or of its rule.
 use Prim.Native.Nat.{ℕ}
 use mathlib.Core.Path.{_≡_}
 use mathlib.Core.List.{List, [], _∷_}
 use mathlib.Core.Bool.{Bool, true, false}
 use Rattle.rules.specs.Word.{allOnes}
-use Rattle.rules.specs.Shadows.{Left}
+use Rattle.rules.specs.Actions.{movOf}
+use Rattle.rules.specs.Shadows.{Left, movV}
 use Rattle.rules.specs.Operations.{actionOf, shadowOf}
 use Rattle.rules.specs.declared.Operation.{Operation}
-use Rattle.rules.specs.declared.Operation.the-variants.{Add, Mul, And, Or, Xor, Shl, Shr, Sar, Eq}
+use Rattle.rules.specs.declared.Operation.the-variants.{Add, Sub, Mul, And, Or, Xor, Shl, Shr, Sar, Eq, Ltu}
 
 -- A row is an operation, whether a and B are the same register, the words x v y w that go in, and the data and V words that come out;
--- or Left, the word that goes in and the one that comes out.
+-- or MOV, with B and its V word; or Left.
 pub data Row : Type 0 where
-  does : Operation → Bool → (x v y w : ℕ) → (data′ shadow : ℕ) → Row
+  does : Operation → Bool → (x v y w : ℕ) → (result shadow : ℕ) → Row
+  moves : (y v : ℕ) → (result shadow : ℕ) → Row
   left : (v shadow : ℕ) → Row
 
--- A word that 01 leaves free is chosen here, and so is the data that follows from it.
+-- a word that 01 leaves free is chosen here
 abbrev pub pinned : List Row
 pinned =
     does Add false 0 0x100 0 0 0 0xFFFF_FF00
@@ -34,10 +37,31 @@ pinned =
     ∷ does Sar false 1 0 0 0x20 1 allOnes
     ∷ does Eq false 0 0x80 0 0 1 1
     ∷ does Mul false 0xFFFF_FFFF 0 0xFFFF_FFFF 0 1 0
+    -- ours
+    ∷ moves 0xDEAD_BEEF 0x0F0F_0F0F 0xDEAD_BEEF 0x0F0F_0F0F
+    ∷ does Add false 0xFFFF_FFFF 0 0x8000_0001 0 0x8000_0000 0
+    ∷ does Add false 0 0 0 0x100 0 0xFFFF_FF00
+    ∷ does Sub false 0 0 1 0x10 0xFFFF_FFFF 0xFFFF_FFF0
+    ∷ does Sub true 5 0x10 5 0x10 0 0xFFFF_FFF0
+    ∷ does Mul false 3 0x8000_0000 5 0 0xF 0x8000_0000
+    ∷ does Mul false 0 0 5 1 0 allOnes
+    ∷ does Or false 0 allOnes 1 0 1 0xFFFF_FFFE
+    ∷ does Xor false 0xFF00 0xF0 0x0FF0 0xF 0xF0F0 0xFF
+    ∷ does Shl false 3 3 31 0 0x8000_0000 0x8000_0000
+    ∷ does Shr false 0x8000_0000 0x8000_0000 0xFFFF_FFFF 0 1 1
+    ∷ does Sar false 0x4000_0000 0x4000_0000 30 0 1 1
+    ∷ does Shl false 1 0 0 0x8000_0000 1 allOnes
+    ∷ does Eq false 0 0 0x8000_0000 0 0 0
+    ∷ does Eq false 0 0 1 0x8000_0000 0 1
+    ∷ does Eq true 7 0x80 7 0x80 1 1
+    ∷ does Ltu false 1 0 0x8000_0000 0 1 0
+    ∷ does Ltu false 1 0 1 0x8000_0000 0 1
+    ∷ does Ltu true 1 1 1 1 0 1
     ∷ []
 
 abbrev pub Holds : Row → Type 0
 Holds (does o same x v y w z u) = (actionOf o x y ≡ z) × (shadowOf o same x v y w ≡ u)
+Holds (moves y v z u) = (movOf y ≡ z) × (movV v ≡ u)
 Holds (left v u) = Left v ≡ u
 
 -- every row holds

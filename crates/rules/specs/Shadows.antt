@@ -15,7 +15,7 @@ UifU v w = bitOr v w
 abbrev pub Left : ℕ → ℕ
 Left v = bitOr v (negated v)
 
--- n bits, all undefined if a single bit of v is
+-- n bits, all undefined if any bit of v is
 abbrev pub PCast : ℕ → ℕ → ℕ
 PCast n v = cond (eqb v 0) 0 (2 ^ n - 1)
 
@@ -27,7 +27,7 @@ ZWiden v = v
 abbrev pub Rule : Type 0
 Rule = Bool → ℕ → ℕ → ℕ → ℕ → ℕ
 
--- MOV has one operand (01; 000, 2.6, data copying)
+-- MOV (01; 000, 2.6, data copying): its one operand is B, and v is the V word of B
 abbrev pub movV : ℕ → ℕ
 movV v = v
 
@@ -41,15 +41,15 @@ subV same x v y w = Left (UifU v w)
 abbrev pub mulV : Rule
 mulV same x v y w = Left (UifU v w)
 
--- AND (01; 000, 2.6; not the table of 002, which lacks the last term): a defined 0 on either side settles the bit
+-- AND (01; 000, 2.6): a defined 0 on either side settles the bit. 002's table has no term for v and y together, and is not used.
 abbrev pub andV : Rule
 andV same x v y w = bitAnd (bitAnd (UifU v w) (bitOr x v)) (bitOr y w)
 
--- OR (01; 000, 2.6): a defined 1 does
+-- OR (01; 000, 2.6): a defined 1 on either side settles the bit
 abbrev pub orV : Rule
 orV same x v y w = andV same (inverted x) v (inverted y) w
 
--- XOR (01; 000, 2.6; of a register with itself 000, 2.8): 0 whatever was in it
+-- XOR (01; 000, 2.6), and of a register with itself (000, 2.8), which is 0 whatever was in it
 abbrev pub xorV : Rule
 xorV same x v y w = cond same 0 (UifU v w)
 
@@ -66,7 +66,7 @@ shrV = shiftV shrOf
 abbrev pub sarV : Rule
 sarV = shiftV sarOf
 
--- EQ, LTU (01; 000, 2.5, narrowing casts): bit 0 is undefined if a single bit of either is; the other 31 are defined
+-- EQ, LTU (01; 000, 2.5, narrowing casts): bit 0 is undefined if any bit of either is; the other 31 are defined
 abbrev pub eqV : Rule
 eqV same x v y w = ZWiden (PCast 1 (UifU v w))
 

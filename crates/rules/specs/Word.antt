@@ -7,18 +7,18 @@ use lib.Dec.{eqb}
 unfoldable pub bit : ℕ → ℕ → ℕ
 bit i x = x / 2 ^ i % 2
 
--- the word that a number leaves: modulo 4,294,967,296
+-- a number modulo 4,294,967,296
 abbrev pub wrapped : ℕ → ℕ
 wrapped n = n % 2 ^ 32
 
 abbrev pub allOnes : ℕ
 allOnes = 2 ^ 32 - 1
 
--- every bit of a word the other way round
+-- each bit of a word flipped
 abbrev pub inverted : ℕ → ℕ
 inverted x = allOnes - x
 
--- the word that makes up 0 with this one
+-- the wrapped negation: a word and its negation add up to 0
 abbrev pub negated : ℕ → ℕ
 negated v = wrapped (2 ^ 32 - v)
 

@@ -22,7 +22,7 @@ pub fn left(v: Shadow) -> Shadow
     Shadow(v.0 | words::negate(v.0))
 }
 
-// PCast to one bit: undefined if a single bit of v is.
+// PCast to one bit: undefined if any bit of v is.
 pub fn pcast_bit(v: Shadow) -> Shadow
     ensures { λ r. ⌜ r .0 ≡ PCast 1 (v .0) ⌝ }
 {

@@ -115,6 +115,8 @@ fn pinned() {
         0,
     );
     show(b"SHL", Operation::Shl, false, 1, 0, 0, 0x20);
+    show(b"SHR", Operation::Shr, false, 1, 0, 0, 0x20);
+    show(b"SAR", Operation::Sar, false, 1, 0, 0, 0x20);
     show(b"EQ ", Operation::Eq, false, 0, 0x80, 0, 0);
     show(
         b"MUL",
@@ -127,33 +129,55 @@ fn pinned() {
     );
 }
 
-// The other rows and rules, one case at the least for each.
-fn others() {
+// The rows that rules/specs/Pinned.antt adds, and the bytes of a word.
+fn ours() {
     show_mov(0xdead_beef, 0x0f0f_0f0f);
-    show(b"ADD", Operation::Add, false, 0xffff_ffff, 0, 1, 0);
+    show(
+        b"ADD",
+        Operation::Add,
+        false,
+        0xffff_ffff,
+        0,
+        0x8000_0001,
+        0,
+    );
+    show(b"ADD", Operation::Add, false, 0, 0, 0, 0x100);
     show(b"SUB", Operation::Sub, false, 0, 0, 1, 0x10);
-    show(b"MUL", Operation::Mul, false, 3, 0, 5, 0x8000_0000);
+    show(b"SUB", Operation::Sub, true, 5, 0x10, 5, 0x10);
+    show(b"MUL", Operation::Mul, false, 3, 0x8000_0000, 5, 0);
+    show(b"MUL", Operation::Mul, false, 0, 0, 5, 1);
     show(b"OR ", Operation::Or, false, 0, 0xffff_ffff, 1, 0);
     show(b"XOR", Operation::Xor, false, 0xff00, 0xf0, 0x0ff0, 0xf);
-    show(b"SHR", Operation::Shr, false, 0xffff_ffff, 0xff, 33, 0);
-    show(b"SAR", Operation::Sar, false, 0x7fff_ffff, 0, 31, 0);
-    show(b"SAR", Operation::Sar, false, 0x8000_0000, 0, 63, 0);
-    show(b"EQ ", Operation::Eq, false, 7, 0, 7, 0);
-    show(b"EQ ", Operation::Eq, false, 7, 0, 8, 0x8000_0000);
-    show(b"LTU", Operation::Ltu, false, 1, 0, 0x8000_0000, 0);
+    show(b"SHL", Operation::Shl, false, 3, 3, 31, 0);
     show(
-        b"LTU",
-        Operation::Ltu,
+        b"SHR",
+        Operation::Shr,
         false,
         0x8000_0000,
         0x8000_0000,
-        1,
+        0xffff_ffff,
         0,
     );
+    show(
+        b"SAR",
+        Operation::Sar,
+        false,
+        0x4000_0000,
+        0x4000_0000,
+        30,
+        0,
+    );
+    show(b"SHL", Operation::Shl, false, 1, 0, 0, 0x8000_0000);
+    show(b"EQ ", Operation::Eq, false, 0, 0, 0x8000_0000, 0);
+    show(b"EQ ", Operation::Eq, false, 0, 0, 1, 0x8000_0000);
+    show(b"EQ ", Operation::Eq, true, 7, 0x80, 7, 0x80);
+    show(b"LTU", Operation::Ltu, false, 1, 0, 0x8000_0000, 0);
+    show(b"LTU", Operation::Ltu, false, 1, 0, 1, 0x8000_0000);
+    show(b"LTU", Operation::Ltu, true, 1, 1, 1, 1);
     show_bytes(0xaa, 0xbb, 0xcc, 0xdd);
 }
 
 fn main() {
     pinned();
-    others();
+    ours();
 }
