@@ -37,7 +37,7 @@ mul-carries k x x′ y y′ hk _ _ p q = wrapped-low k (x * y) hk ∙ mul-same (
 top-clear : (i x : ℕ) → bit i x ≡ 0 → x % 2 ^ suc i < 2 ^ i
 top-clear i x z = subst (λ (n : ℕ). n < 2 ^ i) (sym (low-suc i x ∙ ap (λ (b : ℕ). b * 2 ^ i + x % 2 ^ i) z ∙ omega arith)) (mod-lt x (pow-pos i))
 
--- Left is the lowest undefined bit and all above it: a bit of it is clear exactly if v is clear up to there
+-- what Left means: bit i of it is clear exactly if v has no bit set up to there
 pub left-clear : (i v : ℕ) → i < 32 → v < 2 ^ 32 → (bit i (Left v) ≡ 0) ↔ (v % 2 ^ suc i ≡ 0)
 left-clear i v hi hv = (low, clear)
   where

@@ -1,6 +1,6 @@
-// Document 01's cases on words, run by the compiled code. Each line is one case, in hexadecimal:
-// operands with their V words, then the result's data and V word. The file stdout beside src/ was
-// written by hand from document 01; the gate compares.
+// Cases on words, run by the compiled code. Each line is one case, in hexadecimal: operands with
+// their V words, "same" where both are one register, then the result's data and V word. The file
+// stdout beside src/ was written by hand from document 01, and the gate compares.
 use libc::STDOUT_FILENO;
 use rules::Data;
 use rules::Operation;
@@ -24,6 +24,9 @@ fn show(name: &[u8], op: Operation, same: bool, x: u32, v: u32, y: u32, w: u32) 
     word(b" v ", v);
     word(b" y ", y);
     word(b" w ", w);
+    if same {
+        text(b" same");
+    }
     word(b": ", z.0);
     word(b" V ", u.0);
     text(b"\n");
