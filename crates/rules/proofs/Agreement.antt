@@ -45,17 +45,24 @@ alike-wider m l a =
       agree = a .agree;
     }
 
+-- an operation that works bit by bit is sound under UifU
+module _ (op f : ℕ → ℕ → ℕ)
+    (bits : (i a b : ℕ) → bit i (op a b) ≡ f (bit i a) (bit i b))
+    (range : (n a b : ℕ) → a < 2 ^ n → b < 2 ^ n → op a b < 2 ^ n) where
+  pub alike-bitwise : {n v x x′ w y y′ : ℕ} → Alike n v x x′ → Alike n w y y′ → Alike n (bitOr v w) (op x y) (op x′ y′)
+  unfolding Agree
+  alike-bitwise {n} {v} {x} {x′} {w} {y} {y′} a b =
+      record {
+        shadow = or-lt n v w (a .shadow) (b .shadow);
+        first = range n x y (a .first) (b .first);
+        second = range n x′ y′ (a .second) (b .second);
+        agree = λ i z.
+            let e : max (bit i v) (bit i w) ≡ 0 = sym (bit-or i v w) ∙ z in
+            bits i x y ∙ ap₂ f (a .agree i (omega arith)) (b .agree i (omega arith)) ∙ sym (bits i x′ y′);
+      }
+
 pub alike-or : {n v x x′ w y y′ : ℕ} → Alike n v x x′ → Alike n w y y′ → Alike n (bitOr v w) (bitOr x y) (bitOr x′ y′)
-unfolding Agree
-alike-or {n} {v} {x} {x′} {w} {y} {y′} a b =
-    record {
-      shadow = or-lt n v w (a .shadow) (b .shadow);
-      first = or-lt n x y (a .first) (b .first);
-      second = or-lt n x′ y′ (a .second) (b .second);
-      agree = λ i z.
-          let e : max (bit i v) (bit i w) ≡ 0 = sym (bit-or i v w) ∙ z in
-          bit-or i x y ∙ ap₂ max (a .agree i (omega arith)) (b .agree i (omega arith)) ∙ sym (bit-or i x′ y′);
-    }
+alike-or = alike-bitwise bitOr max bit-or or-lt
 
 -- ---- bits that move
 -- bit i of what f makes of a number of n bits is one bit of that number, whichever number it is, or is always clear

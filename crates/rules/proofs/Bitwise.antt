@@ -9,7 +9,7 @@ use Rattle.rules.specs.Actions.{andOf, orOf, xorOf}
 use Rattle.rules.specs.Shadows.{UifU, andV, orV, xorV}
 use Rattle.rules.specs.Agreement.{Agree, Alike, Sound}
 use Rattle.rules.proofs.Bits.{bit-lt, bit-and, bit-or, bit-xor, bits-equal, bit-not}
-use Rattle.rules.proofs.Agreement.{alike-below, alike-self}
+use Rattle.rules.proofs.Agreement.{alike-below, alike-self, alike-bitwise}
 
 -- ---- AND
 -- a defined 0 settles the bit, whatever the other operand is
@@ -76,12 +76,4 @@ xor-sound true x v x′ y w y′ one a b =
   where
     cleared : (p q : ℕ) → p ≡ q → bitXor p q ≡ 0
     cleared p q e = ap (bitXor p) (sym e) ∙ xor-self p
-xor-sound false x v x′ y w y′ _ a b =
-    record {
-      shadow = or-lt 32 v w (a .shadow) (b .shadow);
-      first = xor-lt 32 x y (a .first) (b .first);
-      second = xor-lt 32 x′ y′ (a .second) (b .second);
-      agree = λ i z.
-          let e : max (bit i v) (bit i w) ≡ 0 = sym (bit-or i v w) ∙ z in
-          bit-xor i x y ∙ ap₂ differ (a .agree i (omega arith)) (b .agree i (omega arith)) ∙ sym (bit-xor i x′ y′);
-    }
+xor-sound false x v x′ y w y′ _ a b = alike-bitwise bitXor differ bit-xor xor-lt a b

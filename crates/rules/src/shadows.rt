@@ -6,6 +6,9 @@ use super::Data;
 use super::Shadow;
 use super::words;
 ghost use mathlib.Core.Path.{_≡_};
+ghost use mathlib.Core.Bool.{cond};
+ghost use lib.Dec.{eqb};
+ghost use Rattle.rules.specs.Word.{allOnes};
 ghost use Rattle.rules.specs.Shadows.{UifU, Left, PCast, movV, addV, subV, mulV, andV, orV, xorV, shlV, shrV, sarV, eqV, ltuV};
 
 // UifU: undefined where either is.
@@ -41,6 +44,13 @@ fn compared(v: Shadow, w: Shadow) -> Shadow
     ensures { λ r. ⌜ r .0 ≡ PCast 1 (UifU (v .0) (w .0)) ⌝ }
 {
     pcast_bit(uifu(v, w))
+}
+
+// An undefined bit of the amount leaves nothing of a shift defined; u is V shifted by the amount.
+fn shifted(u: u32, w: Shadow) -> Shadow
+    ensures { λ r. ⌜ r .0 ≡ cond (eqb (w .0) 0) u allOnes ⌝ }
+{
+    Shadow(words::select(w.0 == 0, u, u32::MAX))
 }
 
 // MOV: the V word goes along.
@@ -89,19 +99,19 @@ pub fn xor(same: bool, x: Data, v: Shadow, y: Data, w: Shadow) -> Shadow
 pub fn shl(same: bool, x: Data, v: Shadow, y: Data, w: Shadow) -> Shadow
     ensures { λ r. ⌜ r .0 ≡ shlV same (x .0) (v .0) (y .0) (w .0) ⌝ }
 {
-    Shadow(words::select(w.0 == 0, words::shift_left(v.0, y.0), u32::MAX))
+    shifted(words::shift_left(v.0, y.0), w)
 }
 
 pub fn shr(same: bool, x: Data, v: Shadow, y: Data, w: Shadow) -> Shadow
     ensures { λ r. ⌜ r .0 ≡ shrV same (x .0) (v .0) (y .0) (w .0) ⌝ }
 {
-    Shadow(words::select(w.0 == 0, words::shift_right(v.0, y.0), u32::MAX))
+    shifted(words::shift_right(v.0, y.0), w)
 }
 
 pub fn sar(same: bool, x: Data, v: Shadow, y: Data, w: Shadow) -> Shadow
     ensures { λ r. ⌜ r .0 ≡ sarV same (x .0) (v .0) (y .0) (w .0) ⌝ }
 {
-    Shadow(words::select(w.0 == 0, words::shift_right_signed(v.0, y.0), u32::MAX))
+    shifted(words::shift_right_signed(v.0, y.0), w)
 }
 
 pub fn eq(same: bool, x: Data, v: Shadow, y: Data, w: Shadow) -> Shadow

@@ -8,4 +8,4 @@ compared-spec =
     (tie.spec
     (λ c κs. search needs)
     (λ c κs. search needs)
-    (λ c. cc))
+    (λ c. rw (c .pcast-bit .ensures, c .before .uifu .ensures)))

@@ -7,4 +7,4 @@ left-spec =
     tie.close
     (tie.spec
     (λ c κs. search needs)
-    (λ c. cc))
+    (λ c. rw (c .before .negate .ensures)))

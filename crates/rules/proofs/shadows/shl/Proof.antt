@@ -8,4 +8,4 @@ shl-spec =
     (tie.spec
     (λ c κs. search needs)
     (λ c κs. search needs)
-    (λ c. cc))
+    (λ c. rw (c .shifted .ensures, c .before .shift-left .ensures)))

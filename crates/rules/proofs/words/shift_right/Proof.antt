@@ -8,4 +8,4 @@ shift-right-spec =
     (tie.spec
     (λ c κs. search needs)
     (λ c. search needs)
-    (λ c. cc))
+    (λ c. rw (c .amount .ensures)))
