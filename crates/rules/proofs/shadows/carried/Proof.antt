@@ -8,4 +8,4 @@ carried-spec =
     (tie.spec
     (λ c κs. search needs)
     (λ c κs. search needs)
-    (λ c. rw (c .left .ensures, c .before .uifu .ensures)))
+    (λ c. cc))
