@@ -1,0 +1,167 @@
+-- The reader accepts exactly the images that `Accepted` describes.
+use Prim.Native.Nat.{ℕ, zero, suc, _+_, _*_, _-_, _≤_, _<_}
+use mathlib.Core.Path.{_≡_, refl, sym, _∙_, ap, subst}
+use mathlib.Core.Logic.{_⊎_, inl, inr, ⊎-elim}
+use mathlib.Core.Bool.{Bool, true, false, cond, _&&_, _||_}
+use mathlib.Core.List.{List}
+use native.Mathlib.Nat.{eq-or-lt-of-le}
+use native.Mathlib.Omega.{arith}
+use lib.Dec.{leb, eqb, lit<}
+use lib.ListN.{length, getD, take}
+use lib.Seq.{ext-getD, getD-take, length-take-le}
+use borrow.Author.Tests.{leb-true, eqb-true, eqb-false, le-leb, eq-eqb}
+use Rattle.image.specs.Words.{nthWord}
+use Rattle.image.specs.Format.{magic, headerSize, mostM, mostN, mostR, mostD, regionsAt, dataAt, sizeOf, fieldM, fieldN, fieldR, fieldD, magicOk, limitsOk, layoutOk, codePart, regionPart}
+use Rattle.image.specs.Rows.{decodeAt}
+use Rattle.image.specs.Regions.{filledKind, undefinedKind, regionAt, endOf, endBefore, regionKeeps, regionOk, filledSum}
+use Rattle.image.specs.Refusals.{tooShort, wrongMagic, outOfLimits, wrongLayout, badInstruction, badRegion, wrongSum, refused, accepted, unless, orElse, firstFault, isValid, instructionOk, codeRefusal, regionRefusal, contentRefusal, refusalWith, refusalOf, headerOf}
+use Rattle.image.specs.Accepted.{Limits, Layout, Keeps, AcceptedWith, Accepted}
+use Rattle.image.specs.declared.Decoded.{Decoded}
+use Rattle.image.specs.declared.Decoded.the-variants.{Valid, Fault}
+use Rattle.image.specs.declared.Instruction.{Instruction}
+use Rattle.image.specs.declared.Region.{Region}
+use Rattle.image.specs.declared.Refusal.{Refusal}
+use Rattle.image.proofs.Tests.{apart, both, all-four, either}
+use Rattle.image.proofs.Faults.{passed, both-passed, no-fault, all-pass}
+
+-- ---- the tests, as facts
+limits-hold : (m n r d : ℕ) → limitsOk m n r d ≡ true → Limits m n r d
+limits-hold m n r d h =
+    let e6 = both _ (leb d mostD) h in
+    let e5 = both _ (leb r mostR) (e6 .0) in
+    let e = all-four (leb 1 m) (leb m mostM) (leb 1 n) (leb n mostN) (e5 .0) in
+    record {
+      some-memory = leb-true _ _ (e .0);
+      memory = leb-true _ _ (e .1);
+      some-code = leb-true _ _ (e .2);
+      code = leb-true _ _ (e .3);
+      regions = leb-true _ _ (e5 .1);
+      held = leb-true _ _ (e6 .1);
+    }
+
+limits-pass : {m n r d : ℕ} → Limits m n r d → limitsOk m n r d ≡ true
+limits-pass l =
+    simp (le-leb _ _ (l .some-memory), le-leb _ _ (l .memory), le-leb _ _ (l .some-code), le-leb _ _ (l .code), le-leb _ _ (l .regions), le-leb _ _ (l .held))
+
+layout-holds : (s : List ℕ) (n r d : ℕ) → layoutOk s n r d ≡ true → Layout s n r d
+layout-holds s n r d h =
+    let e = all-four (eqb (nthWord s 3) headerSize) (eqb (nthWord s 5) (regionsAt n)) (eqb (nthWord s 7) (dataAt n r)) (eqb (length s) (sizeOf n r d)) h in
+    record { code = eqb-true _ _ (e .0); regions = eqb-true _ _ (e .1); held = eqb-true _ _ (e .2); size = eqb-true _ _ (e .3) }
+
+layout-passes : {s : List ℕ} {n r d : ℕ} → Layout s n r d → layoutOk s n r d ≡ true
+layout-passes l = simp (eq-eqb _ _ (l .code), eq-eqb _ _ (l .regions), eq-eqb _ _ (l .held), eq-eqb _ _ (l .size))
+
+-- each of the four bytes that are compared
+same-byte : (s : List ℕ) → ℕ → Bool
+same-byte s k = eqb (getD s k 0) (getD magic k 0)
+
+four-bytes : (s : List ℕ) → magicOk s ≡ true → (same-byte s 0 ≡ true) × (same-byte s 1 ≡ true) × (same-byte s 2 ≡ true) × (same-byte s 3 ≡ true)
+unfolding same-byte
+four-bytes s h = all-four (same-byte s 0) (same-byte s 1) (same-byte s 2) (same-byte s 3) h
+
+magic-byte : (s : List ℕ) → magicOk s ≡ true → (k : ℕ) → k < 4 → same-byte s k ≡ true
+unfolding same-byte
+magic-byte s h zero l = four-bytes s h .0
+magic-byte s h (suc zero) l = four-bytes s h .1
+magic-byte s h (suc (suc zero)) l = four-bytes s h .2
+magic-byte s h (suc (suc (suc zero))) l = four-bytes s h .3
+magic-byte s h (suc (suc (suc (suc k)))) l = absurd (omega arith)
+
+magic-holds : (s : List ℕ) → headerSize ≤ length s → magicOk s ≡ true → take (length magic) s ≡ magic
+unfolding same-byte
+magic-holds s l h =
+    let four : length (take 4 s) ≡ 4 = length-take-le 4 s (omega arith) in
+    ext-getD 0 (take 4 s) magic four (λ i k. let q : i < 4 = omega arith in getD-take 4 s i 0 q ∙ eqb-true _ _ (magic-byte s h i q))
+
+magic-passes : (s : List ℕ) → take (length magic) s ≡ magic → magicOk s ≡ true
+magic-passes s h = simp (at 0 (omega arith), at 1 (omega arith), at 2 (omega arith), at 3 (omega arith))
+  where
+    at : (i : ℕ) → i < 4 → eqb (getD s i 0) (getD magic i 0) ≡ true
+    at i l = eq-eqb _ _ (sym (getD-take 4 s i 0 l) ∙ ap (λ (t : List ℕ). getD t i 0) h)
+
+keeps-hold : (region : Region) (before m : ℕ) → regionKeeps region before m ≡ true → Keeps region before m
+keeps-hold region before m h =
+    let filled = eqb (region .kind) filledKind in
+    let undefined = eqb (region .kind) undefinedKind in
+    let e = all-four (leb 1 (region .size)) (leb before (region .start)) (leb (endOf region) m) (filled || undefined) h in
+    record {
+      some = leb-true _ _ (e .0);
+      follows = leb-true _ _ (e .1);
+      within = leb-true _ _ (e .2);
+      kind = ⊎-elim (λ k. inl (eqb-true _ _ k)) (λ k. inr (eqb-true _ _ k)) (either filled undefined (e .3));
+    }
+
+keeps-pass : {region : Region} {before m : ℕ} → Keeps region before m → regionKeeps region before m ≡ true
+keeps-pass {region} k = simp (le-leb _ _ (k .some), le-leb _ _ (k .follows), le-leb _ _ (k .within), of (k .kind))
+  where
+    of : (region .kind ≡ filledKind) ⊎ (region .kind ≡ undefinedKind) → eqb (region .kind) filledKind || eqb (region .kind) undefinedKind ≡ true
+    of (inl e) = rw e
+    of (inr e) = rw e
+
+valid-holds : (x : Decoded) → isValid x ≡ true → (v : Instruction) × (x ≡ Valid v)
+valid-holds (Valid v) h = (v, refl)
+valid-holds (Fault k) h = apart (sym h)
+
+-- ---- the theorems
+module _ (s : List ℕ) (m n r d : ℕ) where
+  abbrev code : List ℕ
+  code = codePart s n
+
+  abbrev regions : List ℕ
+  regions = regionPart s n r
+
+  abbrev last : Refusal
+  last = unless (eqb (filledSum regions r) d) wrongSum accepted
+
+  with-holds : refusalWith s m n r d .number ≡ 0 → AcceptedWith s m n r d
+  unfolding codeRefusal regionRefusal instructionOk regionOk
+  with-holds h =
+      let p1 = passed (leb headerSize (length s)) tooShort 0 _ (lit< tt) h in
+      let p2 = passed (magicOk s) wrongMagic 0 _ (lit< tt) (p1 .1) in
+      let p3 = passed (limitsOk m n r d) outOfLimits 0 _ (lit< tt) (p2 .1) in
+      let p4 = passed (layoutOk s n r d) wrongLayout 0 (contentRefusal code regions m n r d) (lit< tt) (p3 .1) in
+      let p5 = both-passed (codeRefusal code n m) (orElse (regionRefusal regions r m) last) (p4 .1) in
+      let p6 = both-passed (regionRefusal regions r m) last (p5 .1) in
+      let p7 = passed (eqb (filledSum regions r) d) wrongSum 0 accepted (lit< tt) (p6 .1) in
+      let long = leb-true headerSize (length s) (p1 .0) in
+      record {
+        long = long;
+        starts = magic-holds s long (p2 .0);
+        limits = limits-hold m n r d (p3 .0);
+        layout = layout-holds s n r d (p4 .0);
+        code = λ i l. valid-holds _ (no-fault badInstruction _ 0 n (lit< tt) (p5 .0) i (omega arith) (omega arith));
+        regions = λ i l. keeps-hold _ _ _ (no-fault badRegion _ 0 r (lit< tt) (p6 .0) i (omega arith) (omega arith));
+        sum = eqb-true _ _ (p7 .0);
+      }
+
+  with-passes : AcceptedWith s m n r d → refusalWith s m n r d ≡ accepted
+  unfolding codeRefusal regionRefusal instructionOk regionOk
+  with-passes a =
+      let codes : codeRefusal code n m ≡ accepted = all-pass badInstruction _ 0 n (λ k lo hi. ap isValid (a .code k (omega arith) .1)) in
+      let places : regionRefusal regions r m ≡ accepted = all-pass badRegion _ 0 r (λ k lo hi. keeps-pass (a .regions k (omega arith))) in
+      simp (le-leb _ _ (a .long), magic-passes s (a .starts), limits-pass (a .limits), layout-passes (a .layout), codes, places, eq-eqb _ _ (a .sum))
+
+-- what an accepted image is
+pub accepted-image : (s : List ℕ) → refusalOf s .number ≡ 0 → Accepted s
+unfolding refusalOf
+accepted-image s h = with-holds s (fieldM s) (fieldN s) (fieldR s) (fieldD s) h
+
+-- and nothing else is refused
+pub accepted-only : (s : List ℕ) → Accepted s → refusalOf s ≡ accepted
+unfolding refusalOf
+accepted-only s a = with-passes s (fieldM s) (fieldN s) (fieldR s) (fieldD s) a
+
+-- the answer to an accepted image
+pub accepted-header : (s : List ℕ) → Accepted s
+    → headerOf s ≡ record { m = fieldM s; n = fieldN s; r = fieldR s; d = fieldD s; refusal = accepted }
+unfolding headerOf
+accepted-header s a = rw (accepted-only s a)
+
+-- the code of any answer is within the limit
+pub header-code : (s : List ℕ) → headerOf s .n ≤ mostN
+unfolding headerOf
+header-code s = go (eqb (refusalOf s .number) 0) refl
+  where
+    go : (t : Bool) → eqb (refusalOf s .number) 0 ≡ t → headerOf s .n ≤ mostN
+    go true e = rw e (accepted-image s (eqb-true _ _ e) .limits .code)
+    go false e = rw e (omega arith)

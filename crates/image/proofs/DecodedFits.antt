@@ -1,0 +1,92 @@
+-- How far the fields of a decoded instruction reach, and that every index of an accepted image has one.
+use Prim.Native.Nat.{ℕ, _+_, _*_, _/_, _%_, _^_, _≤_, _<_}
+use mathlib.Core.Path.{_≡_, refl, sym, _∙_, ap, subst}
+use mathlib.Core.Logic.{⊎-elim}
+use mathlib.Core.Bool.{Bool, true, false, cond, _&&_, _||_}
+use mathlib.Core.List.{List}
+use native.Mathlib.Omega.{arith}
+use lib.Dec.{ltb, leb, eqb}
+use lib.ListN.{length, getD}
+use borrow.Author.Tests.{ltb-true, leb-true, eqb-true}
+use Rattle.rules.proofs.ByteLaws.{joined-lt}
+use Rattle.image.specs.Words.{nthWord, Bytes}
+use Rattle.image.specs.Format.{headerSize, instructionSize, fieldM, fieldN, codePart}
+use Rattle.image.specs.Rows.{rowOf, registers, ports, literalMark, isRegister, operandOk, rangeStart, rangeLength, rangeOk, fieldsOk, operandOf, built, decoded, decodeAt}
+use Rattle.image.specs.Accepted.{Accepted, OperandFits, Fits}
+use Rattle.image.specs.declared.Instruction.{Instruction}
+use Rattle.image.specs.declared.Row.{Row}
+use Rattle.image.specs.declared.Row.the-variants.{Stops, Moves, Computes, Loads, Stores, Jumps, Emits, Marks, Missing}
+use Rattle.image.specs.declared.Decoded.{Decoded}
+use Rattle.image.specs.declared.Decoded.the-variants.{Valid, Fault}
+use Rattle.image.proofs.Parts.{bytes-part}
+use Rattle.image.proofs.Tests.{apart, both, all-four, either}
+
+pub word-lt : (s : List ℕ) (k : ℕ) → Bytes s → nthWord s k < 2 ^ 32
+unfolding nthWord
+word-lt s k b = joined-lt 4 (λ j. getD s (4 * k + j) 0) (λ j l. b (4 * k + j))
+
+operand-fits : (b imm : ℕ) → imm < 2 ^ 32 → operandOk b imm ≡ true → OperandFits (operandOf b imm)
+operand-fits b imm l h = go (eqb b literalMark) refl
+  where
+    go : (t : Bool) → eqb b literalMark ≡ t → OperandFits (operandOf b imm)
+    go true e = rw e l
+    go false e = rw e (ltb-true _ _ (both (isRegister b) (eqb imm 0) (rw e at h) .0))
+
+-- the instruction of fields that keep their row
+built-fits : (row : Row) (d a b imm n m : ℕ) → imm < 2 ^ 32 → fieldsOk row d a b imm n m ≡ true → Fits n m (built row d a b imm)
+unfolding fieldsOk built
+built-fits Stops d a b imm n m l h = tt
+built-fits Moves d a b imm n m l h =
+    let e2 = both (isRegister d && eqb a 0) (operandOk b imm) h in
+    (ltb-true _ _ (both (isRegister d) (eqb a 0) (e2 .0) .0), operand-fits b imm l (e2 .1))
+built-fits (Computes op) d a b imm n m l h =
+    let e2 = both (isRegister d && isRegister a) (operandOk b imm) h in
+    let e1 = both (isRegister d) (isRegister a) (e2 .0) in
+    (ltb-true _ _ (e1 .0), ltb-true _ _ (e1 .1), operand-fits b imm l (e2 .1))
+built-fits (Loads width) d a b imm n m l h =
+    let e1 = both (isRegister d) (isRegister a) (both (isRegister d && isRegister a) (eqb b 0) h .0) in
+    (ltb-true _ _ (e1 .0), ltb-true _ _ (e1 .1), l)
+built-fits (Stores width) d a b imm n m l h =
+    let e1 = both (isRegister d) (isRegister a) (both (isRegister d && isRegister a) (eqb b 0) h .0) in
+    (ltb-true _ _ (e1 .0), ltb-true _ _ (e1 .1), l)
+built-fits Jumps d a b imm n m l h =
+    let e = all-four (eqb d 0) (isRegister a) (eqb b 0) (ltb imm n) h in
+    (ltb-true _ _ (e .1), ltb-true _ _ (e .3))
+built-fits Emits d a b imm n m l h =
+    let e = all-four (eqb d 0) (isRegister a) (eqb b 0) (ltb imm ports) h in
+    (ltb-true _ _ (e .1), ltb-true _ _ (e .3))
+built-fits (Marks addressable) d a b imm n m l h =
+    let e = all-four (eqb d 0) (eqb a 0) (eqb b 0) (rangeOk imm m) h in
+    let q = both (leb 1 (rangeLength imm)) (leb (rangeStart imm + rangeLength imm) m) (e .3) in
+    (leb-true _ _ (q .0), leb-true _ _ (q .1))
+built-fits Missing d a b imm n m l h = apart (sym h)
+
+abbrev AnswerFits : (n m : ℕ) → Decoded → Type 0
+AnswerFits n m (Valid v) = Fits n m v
+AnswerFits n m (Fault i) = Unit
+
+fields-fit : (row : Row) (d a b imm i n m : ℕ) → imm < 2 ^ 32 → AnswerFits n m (decoded row d a b imm i n m)
+unfolding decoded
+fields-fit row d a b imm i n m l = go (fieldsOk row d a b imm n m) refl
+  where
+    go : (t : Bool) → fieldsOk row d a b imm n m ≡ t → AnswerFits n m (cond t (Valid (built row d a b imm)) (Fault i))
+    go true e = built-fits row d a b imm n m l e
+    go false e = tt
+
+answer-fits : (code : List ℕ) (i n m : ℕ) → Bytes code → AnswerFits n m (decodeAt code i n m)
+unfolding decodeAt
+answer-fits code i n m b = go (ltb i (length code / instructionSize)) refl
+  where
+    go : (t : Bool) → ltb i (length code / instructionSize) ≡ t → AnswerFits n m (decodeAt code i n m)
+    go true e = rw e (fields-fit _ _ _ _ _ i n m (word-lt code (2 * i + 1) b))
+    go false e = rw e tt
+
+pub decoded-fits : (code : List ℕ) (i n m : ℕ) (v : Instruction) → Bytes code → decodeAt code i n m ≡ Valid v → Fits n m v
+decoded-fits code i n m v b h = subst (AnswerFits n m) h (answer-fits code i n m b)
+
+-- each index below N of an accepted image decodes, to an instruction whose fields fit
+pub decodes : (s : List ℕ) → Bytes s → Accepted s → (i : ℕ) → i < fieldN s
+    → (v : Instruction) × (decodeAt (codePart s (fieldN s)) i (fieldN s) (fieldM s) ≡ Valid v) × Fits (fieldN s) (fieldM s) v
+decodes s b a i l =
+    let found = a .code i l in
+    (found .0, found .1, decoded-fits (codePart s (fieldN s)) i (fieldN s) (fieldM s) (found .0) (bytes-part s headerSize (instructionSize * fieldN s) b) (found .1))

@@ -1,0 +1,6 @@
+pub mod Parts
+pub mod Tests
+pub mod Faults
+pub mod RegionLaws
+pub mod AcceptedImage
+pub mod DecodedFits

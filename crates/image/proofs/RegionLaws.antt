@@ -1,0 +1,16 @@
+-- The regions, as loops that count up and back meet them.
+use Prim.Native.Nat.{ℕ, zero, suc, _+_, _-_}
+use mathlib.Core.Path.{_≡_, refl, ap}
+use mathlib.Core.List.{List}
+use native.Mathlib.Numerals.{add-one}
+use native.Mathlib.Omega.{arith}
+use Rattle.image.specs.Regions.{regionAt, endOf, endBefore, filledOf, filledSum}
+
+pub end-after : (regions : List ℕ) (i : ℕ) → (i ≡ 0 → ⊥) → endBefore regions i ≡ endOf (regionAt regions (i - 1))
+unfolding endBefore
+end-after regions zero h = absurd (h refl)
+end-after regions (suc i) h = ap (λ (k : ℕ). endOf (regionAt regions k)) (omega arith)
+
+pub filled-next : (regions : List ℕ) (i : ℕ) → filledSum regions (i + 1) ≡ filledSum regions i + filledOf (regionAt regions i)
+unfolding filledSum
+filled-next regions i = rw (add-one i)

@@ -1,0 +1,6 @@
+pub mod Words
+pub mod Format
+pub mod Rows
+pub mod Regions
+pub mod Refusals
+pub mod Accepted

@@ -1,0 +1,115 @@
+-- The table of instructions (01, What a card holds): the row of each op, which fields keep it, and the instruction that they make.
+use Prim.Native.Nat.{ℕ, _+_, _*_, _/_, _%_, _^_}
+use mathlib.Core.Bool.{Bool, true, false, cond, _&&_, _||_}
+use mathlib.Core.List.{List, [], _∷_}
+use lib.ListN.{length, getD}
+use lib.Dec.{ltb, leb, eqb}
+use Rattle.rules.specs.declared.Operation.the-variants.{Add, Sub, Mul, And, Or, Xor, Shl, Shr, Sar, Eq, Ltu}
+use Rattle.image.specs.Words.{nthWord}
+use Rattle.image.specs.Format.{instructionSize}
+use Rattle.image.specs.declared.Operand.{Operand}
+use Rattle.image.specs.declared.Operand.the-variants.{Register, Literal}
+use Rattle.image.specs.declared.Width.the-variants.{Byte, Word}
+use Rattle.image.specs.declared.Instruction.{Instruction}
+use Rattle.image.specs.declared.Instruction.the-variants.{Stop, Move, Compute, Load, Store, Jump, Emit, Mark}
+use Rattle.image.specs.declared.Row.{Row}
+use Rattle.image.specs.declared.Row.the-variants.{Stops, Moves, Computes, Loads, Stores, Jumps, Emits, Marks, Missing}
+use Rattle.image.specs.declared.Decoded.{Decoded}
+use Rattle.image.specs.declared.Decoded.the-variants.{Valid, Fault}
+
+-- the row of op 0, of op 1, .. ; OPEN marks bytes as addressable, CLOSE as not
+abbrev pub rows : List Row
+rows =
+    Stops
+    ∷ Moves
+    ∷ Computes Add
+    ∷ Computes Sub
+    ∷ Computes Mul
+    ∷ Computes And
+    ∷ Computes Or
+    ∷ Computes Xor
+    ∷ Computes Shl
+    ∷ Computes Shr
+    ∷ Computes Sar
+    ∷ Computes Eq
+    ∷ Computes Ltu
+    ∷ Loads Byte
+    ∷ Loads Word
+    ∷ Stores Byte
+    ∷ Stores Word
+    ∷ Jumps
+    ∷ Emits
+    ∷ Marks true
+    ∷ Marks false
+    ∷ []
+
+unfoldable pub rowOf : ℕ → Row
+rowOf op = getD rows op Missing
+
+abbrev pub registers : ℕ
+registers = 16
+
+abbrev pub ports : ℕ
+ports = 8
+
+-- in the place of a register's number: the operand is the literal imm
+abbrev pub literalMark : ℕ
+literalMark = 255
+
+abbrev pub isRegister : ℕ → Bool
+isRegister x = ltb x registers
+
+-- B: a register with imm 0, or the literal imm
+abbrev pub operandOk : ℕ → ℕ → Bool
+operandOk b imm = eqb b literalMark || isRegister b && eqb imm 0
+
+-- the range of OPEN and CLOSE: start in the low half of imm, length in the high half
+abbrev pub rangeStart : ℕ → ℕ
+rangeStart imm = imm % 2 ^ 16
+
+abbrev pub rangeLength : ℕ → ℕ
+rangeLength imm = imm / 2 ^ 16
+
+abbrev pub rangeOk : ℕ → ℕ → Bool
+rangeOk imm m = leb 1 (rangeLength imm) && leb (rangeStart imm + rangeLength imm) m
+
+-- whether the fields d a b imm keep a row, in an image of N instructions and M bytes of memory; an unused field is 0
+unfoldable pub fieldsOk : Row → (d a b imm n m : ℕ) → Bool
+fieldsOk Stops d a b imm n m = eqb d 0 && eqb a 0 && eqb b 0 && eqb imm 0
+fieldsOk Moves d a b imm n m = isRegister d && eqb a 0 && operandOk b imm
+fieldsOk (Computes op) d a b imm n m = isRegister d && isRegister a && operandOk b imm
+fieldsOk (Loads width) d a b imm n m = isRegister d && isRegister a && eqb b 0
+fieldsOk (Stores width) d a b imm n m = isRegister d && isRegister a && eqb b 0
+fieldsOk Jumps d a b imm n m = eqb d 0 && isRegister a && eqb b 0 && ltb imm n
+fieldsOk Emits d a b imm n m = eqb d 0 && isRegister a && eqb b 0 && ltb imm ports
+fieldsOk (Marks addressable) d a b imm n m = eqb d 0 && eqb a 0 && eqb b 0 && rangeOk imm m
+fieldsOk Missing d a b imm n m = false
+
+abbrev pub operandOf : ℕ → ℕ → Operand
+operandOf b imm = cond (eqb b literalMark) (Literal (record { 0 = imm })) (Register b)
+
+-- the instruction of fields that keep a row; of no row there is none, and the answer is not used
+unfoldable pub built : Row → (d a b imm : ℕ) → Instruction
+built Stops d a b imm = Stop
+built Moves d a b imm = Move d (operandOf b imm)
+built (Computes op) d a b imm = Compute op d a (operandOf b imm)
+built (Loads width) d a b imm = Load width d a imm
+built (Stores width) d a b imm = Store width d a imm
+built Jumps d a b imm = Jump a imm
+built Emits d a b imm = Emit a imm
+built (Marks addressable) d a b imm = Mark addressable (rangeStart imm) (rangeLength imm)
+built Missing d a b imm = Stop
+
+-- the instruction with these fields, or the place of the fault
+unfoldable pub decoded : Row → (d a b imm i n m : ℕ) → Decoded
+decoded row d a b imm i n m = cond (fieldsOk row d a b imm n m) (Valid (built row d a b imm)) (Fault i)
+
+-- instruction number i of the code: four bytes op, d, a, b and a word imm; code that ends before is at fault
+unfoldable pub decodeAt : List ℕ → ℕ → ℕ → ℕ → Decoded
+decodeAt code i n m =
+    cond (ltb i (length code / instructionSize))
+    (decoded (rowOf (byte 0)) (byte 1) (byte 2) (byte 3) (nthWord code (2 * i + 1)) i n m)
+    (Fault i)
+  where
+    byte : ℕ → ℕ
+    byte k = getD code (instructionSize * i + k) 0

@@ -1,0 +1,84 @@
+// The regions of an image: their three words, the rules for them, and the filled sum.
+use super::Region;
+use super::format::REGION;
+use super::words;
+ghost use mathlib.Core.Path.{_≡_};
+ghost use Prim.Native.Nat.{_+_, _*_, _≤_, _<_, _^_};
+ghost use Rattle.image.specs.Regions.{regionAt, endOf, endBefore, regionOk, filledOf, filledSum};
+
+// The kinds: the image has its bytes; addressable but undefined.
+const FILLED: u32 = 1;
+
+const UNDEFINED: u32 = 2;
+
+// Region number i of a list of regions; zeros past the last.
+pub fn region_at(regions: &[u8], i: usize) -> Region
+    ensures { λ r. ⌜ r ≡ regionAt (now (regions .entry)) i ⌝ }
+{
+    if i < regions.len() / REGION {
+        Region {
+            start: words::nth(regions, 3 * i),
+            size: words::nth(regions, 3 * i + 1),
+            kind: words::nth(regions, 3 * i + 2),
+        }
+    } else {
+        Region {
+            start: 0,
+            size: 0,
+            kind: 0,
+        }
+    }
+}
+
+fn end_of(found: Region) -> usize
+    ensures { λ r. ⌜ r ≡ endOf found ⌝ }
+{
+    found.start as usize + found.size as usize
+}
+
+// The end of the region before number i.
+fn end_before(regions: &[u8], i: usize) -> usize
+    ensures { λ r. ⌜ r ≡ endBefore (now (regions .entry)) i ⌝ }
+{
+    if i == 0 {
+        return 0;
+    }
+    end_of(region_at(regions, i - 1))
+}
+
+// Whether region number i keeps the rules.
+pub fn region_ok(regions: &[u8], m: usize, i: usize) -> bool
+    ensures { λ r. ⌜ r ≡ regionOk (now (regions .entry)) m i ⌝ }
+{
+    let found = region_at(regions, i);
+    let before = end_before(regions, i);
+    (1 <= found.size)
+        & (before <= found.start as usize)
+        & (end_of(found) <= m)
+        & ((found.kind == FILLED) | (found.kind == UNDEFINED))
+}
+
+// How many bytes of data belong to a region.
+fn filled_of(found: Region) -> usize
+    ensures { λ r. ⌜ (r ≡ filledOf found) × (r < 2 ^ 32) ⌝ }
+{
+    if found.kind == FILLED {
+        found.size as usize
+    } else {
+        0
+    }
+}
+
+// How many bytes of data belong to the first r regions.
+pub fn filled_sum(regions: &[u8], r: usize) -> usize
+    requires { ⌜ r < 2 ^ 32 ⌝ }
+    ensures { λ t. ⌜ t ≡ filledSum (now (regions .entry)) r ⌝ }
+{
+    let mut sum = 0;
+    let mut i = 0;
+    while i < r {
+        sum += filled_of(region_at(regions, i));
+        i += 1;
+    }
+    sum
+}

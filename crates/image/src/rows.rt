@@ -1,0 +1,176 @@
+// The table of instructions (document 01, What a card holds).
+use super::Data;
+use super::Decoded;
+use super::Instruction;
+use super::Operand;
+use super::Operation;
+use super::Row;
+use super::Width;
+use super::format::INSTRUCTION;
+use super::words;
+ghost use mathlib.Core.Path.{_≡_};
+ghost use Rattle.image.specs.Rows.{rowOf, operandOk, rangeOk, fieldsOk, operandOf, built, decoded, decodeAt};
+
+// The row of op 0, of op 1, ..
+const ROWS: [Row; 21] = [
+    Row::Stops,
+    Row::Moves,
+    Row::Computes(Operation::Add),
+    Row::Computes(Operation::Sub),
+    Row::Computes(Operation::Mul),
+    Row::Computes(Operation::And),
+    Row::Computes(Operation::Or),
+    Row::Computes(Operation::Xor),
+    Row::Computes(Operation::Shl),
+    Row::Computes(Operation::Shr),
+    Row::Computes(Operation::Sar),
+    Row::Computes(Operation::Eq),
+    Row::Computes(Operation::Ltu),
+    Row::Loads(Width::Byte),
+    Row::Loads(Width::Word),
+    Row::Stores(Width::Byte),
+    Row::Stores(Width::Word),
+    Row::Jumps,
+    Row::Emits,
+    Row::Marks(true),
+    Row::Marks(false),
+];
+
+const REGISTERS: u8 = 16;
+
+const PORTS: u32 = 8;
+
+// In the place of a register's number: the operand is the literal imm.
+const LITERAL: u8 = 255;
+
+// The halves of imm: a range's start is the low one, its length the high one.
+const HALF: u32 = 0x1_0000;
+
+fn row_of(op: u8) -> Row
+    ensures { λ r. ⌜ r ≡ rowOf op ⌝ }
+{
+    let k = op as usize;
+    if k < 21 { ROWS[k] } else { Row::Missing }
+}
+
+fn operand_ok(b: u8, imm: u32) -> bool
+    ensures { λ r. ⌜ r ≡ operandOk b imm ⌝ }
+{
+    (b == LITERAL) | (b < REGISTERS) & (imm == 0)
+}
+
+fn range_ok(imm: u32, m: usize) -> bool
+    ensures { λ r. ⌜ r ≡ rangeOk imm m ⌝ }
+{
+    let start = (imm % HALF) as usize;
+    let size = (imm / HALF) as usize;
+    (1 <= size) & (start + size <= m)
+}
+
+// Whether the fields keep their row; an unused field is 0.
+fn fields_ok(row: Row, d: u8, a: u8, b: u8, imm: u32, n: usize, m: usize) -> bool
+    ensures { λ r. ⌜ r ≡ fieldsOk row d a b imm n m ⌝ }
+{
+    match row {
+        Row::Stops => (d == 0) & (a == 0) & (b == 0) & (imm == 0),
+        Row::Moves => (d < REGISTERS) & (a == 0) & operand_ok(b, imm),
+        Row::Computes(_) => (d < REGISTERS) & (a < REGISTERS) & operand_ok(b, imm),
+        Row::Loads(_) => (d < REGISTERS) & (a < REGISTERS) & (b == 0),
+        Row::Stores(_) => (d < REGISTERS) & (a < REGISTERS) & (b == 0),
+        Row::Jumps => (d == 0) & (a < REGISTERS) & (b == 0) & ((imm as usize) < n),
+        Row::Emits => (d == 0) & (a < REGISTERS) & (b == 0) & (imm < PORTS),
+        Row::Marks(_) => (d == 0) & (a == 0) & (b == 0) & range_ok(imm, m),
+        Row::Missing => false,
+    }
+}
+
+fn operand_of(b: u8, imm: u32) -> Operand
+    ensures { λ r. ⌜ r ≡ operandOf b imm ⌝ }
+{
+    if b == LITERAL {
+        Operand::Literal(Data(imm))
+    } else {
+        Operand::Register(b)
+    }
+}
+
+// The instruction of fields that keep their row; of no row there is none, and the answer is not used.
+fn build(row: Row, d: u8, a: u8, b: u8, imm: u32) -> Instruction
+    ensures { λ r. ⌜ r ≡ built row d a b imm ⌝ }
+{
+    match row {
+        Row::Stops => Instruction::Stop,
+        Row::Moves => Instruction::Move {
+            d: d,
+            b: operand_of(b, imm),
+        },
+        Row::Computes(op) => Instruction::Compute {
+            op: op,
+            d: d,
+            a: a,
+            b: operand_of(b, imm),
+        },
+        Row::Loads(width) => Instruction::Load {
+            width: width,
+            d: d,
+            a: a,
+            imm: imm,
+        },
+        Row::Stores(width) => Instruction::Store {
+            width: width,
+            d: d,
+            a: a,
+            imm: imm,
+        },
+        Row::Jumps => Instruction::Jump { a: a, target: imm },
+        Row::Emits => Instruction::Emit { a: a, port: imm },
+        Row::Marks(addressable) => Instruction::Mark {
+            addressable: addressable,
+            start: imm % HALF,
+            size: imm / HALF,
+        },
+        Row::Missing => Instruction::Stop,
+    }
+}
+
+fn decode_fields(
+    row: Row,
+    d: u8,
+    a: u8,
+    b: u8,
+    imm: u32,
+    index: usize,
+    n: usize,
+    m: usize,
+) -> Decoded
+    ensures { λ r. ⌜ r ≡ decoded row d a b imm index n m ⌝ }
+{
+    if fields_ok(row, d, a, b, imm, n, m) {
+        Decoded::Valid(build(row, d, a, b, imm))
+    } else {
+        Decoded::Fault(index)
+    }
+}
+
+// Instruction number index of the code of an image with n instructions and m bytes of memory, or the
+// index where there is none that keeps its row.
+pub fn decode(code: &[u8], index: usize, n: usize, m: usize) -> Decoded
+    ensures { λ r. ⌜ r ≡ decodeAt (now (code .entry)) index n m ⌝ }
+{
+    if index < code.len() / INSTRUCTION {
+        let at = INSTRUCTION * index;
+        let imm = words::nth(code, 2 * index + 1);
+        decode_fields(
+            row_of(code[at]),
+            code[at + 1],
+            code[at + 2],
+            code[at + 3],
+            imm,
+            index,
+            n,
+            m,
+        )
+    } else {
+        Decoded::Fault(index)
+    }
+}
