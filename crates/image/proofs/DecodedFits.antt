@@ -10,12 +10,12 @@ use lib.ListN.{length, getD}
 use borrow.Author.Tests.{ltb-true, leb-true, eqb-true}
 use Rattle.rules.proofs.ByteLaws.{joined-lt}
 use Rattle.image.specs.Words.{nthWord, Bytes}
-use Rattle.image.specs.Format.{headerSize, instructionSize, fieldM, fieldN, codePart}
-use Rattle.image.specs.Rows.{rowOf, registers, ports, literalMark, isRegister, operandOk, rangeStart, rangeLength, rangeOk, fieldsOk, operandOf, built, decoded, decodeAt}
+use Rattle.image.specs.Format.{headerSize, instructionSize, ports, fieldM, fieldN, codePart}
+use Rattle.image.specs.Rows.{rowOf, literalMark, isRegister, operandOk, rangeStart, rangeLength, rangeOk, fieldsOk, operandOf, built, decoded, decodeAt}
 use Rattle.image.specs.Accepted.{Accepted, OperandFits, Fits}
 use Rattle.image.specs.declared.Instruction.{Instruction}
-use Rattle.image.specs.declared.Row.{Row}
-use Rattle.image.specs.declared.Row.the-variants.{Stops, Moves, Computes, Loads, Stores, Jumps, Emits, Marks, Missing}
+use Rattle.image.specs.declared.rows.Row.{Row}
+use Rattle.image.specs.declared.rows.Row.the-variants.{Stops, Moves, Computes, Loads, Stores, Jumps, Emits, Marks, Missing}
 use Rattle.image.specs.declared.Decoded.{Decoded}
 use Rattle.image.specs.declared.Decoded.the-variants.{Valid, Fault}
 use Rattle.image.proofs.Parts.{bytes-part}

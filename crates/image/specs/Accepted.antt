@@ -6,8 +6,8 @@ use mathlib.Core.Logic.{_⊎_}
 use mathlib.Core.List.{List}
 use lib.ListN.{length, take}
 use Rattle.image.specs.Words.{nthWord}
-use Rattle.image.specs.Format.{magic, headerSize, mostM, mostN, mostR, mostD, regionsAt, dataAt, sizeOf, fieldM, fieldN, fieldR, fieldD, codePart, regionPart}
-use Rattle.image.specs.Rows.{registers, ports, decodeAt}
+use Rattle.image.specs.Format.{magic, headerSize, mostM, mostN, mostR, mostD, registers, ports, regionsAt, dataAt, sizeOf, fieldM, fieldN, fieldR, fieldD, codePart, regionPart}
+use Rattle.image.specs.Rows.{decodeAt}
 use Rattle.image.specs.Regions.{filledKind, undefinedKind, regionAt, endOf, endBefore, filledSum}
 use Rattle.image.specs.declared.Operand.{Operand}
 use Rattle.image.specs.declared.Operand.the-variants.{Register, Literal}

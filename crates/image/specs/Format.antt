@@ -33,6 +33,13 @@ mostR = 32
 abbrev pub mostD : ℕ
 mostD = 4096
 
+-- how many registers and output ports an instruction can name
+abbrev pub registers : ℕ
+registers = 16
+
+abbrev pub ports : ℕ
+ports = 8
+
 -- where regions and data begin, and where an image ends
 abbrev pub regionsAt : ℕ → ℕ
 regionsAt n = headerSize + instructionSize * n

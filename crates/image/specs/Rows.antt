@@ -6,14 +6,14 @@ use lib.ListN.{length, getD}
 use lib.Dec.{ltb, leb, eqb}
 use Rattle.rules.specs.declared.Operation.the-variants.{Add, Sub, Mul, And, Or, Xor, Shl, Shr, Sar, Eq, Ltu}
 use Rattle.image.specs.Words.{nthWord}
-use Rattle.image.specs.Format.{instructionSize}
+use Rattle.image.specs.Format.{instructionSize, registers, ports}
 use Rattle.image.specs.declared.Operand.{Operand}
 use Rattle.image.specs.declared.Operand.the-variants.{Register, Literal}
 use Rattle.image.specs.declared.Width.the-variants.{Byte, Word}
 use Rattle.image.specs.declared.Instruction.{Instruction}
 use Rattle.image.specs.declared.Instruction.the-variants.{Stop, Move, Compute, Load, Store, Jump, Emit, Mark}
-use Rattle.image.specs.declared.Row.{Row}
-use Rattle.image.specs.declared.Row.the-variants.{Stops, Moves, Computes, Loads, Stores, Jumps, Emits, Marks, Missing}
+use Rattle.image.specs.declared.rows.Row.{Row}
+use Rattle.image.specs.declared.rows.Row.the-variants.{Stops, Moves, Computes, Loads, Stores, Jumps, Emits, Marks, Missing}
 use Rattle.image.specs.declared.Decoded.{Decoded}
 use Rattle.image.specs.declared.Decoded.the-variants.{Valid, Fault}
 
@@ -45,12 +45,6 @@ rows =
 
 unfoldable pub rowOf : ℕ → Row
 rowOf op = getD rows op Missing
-
-abbrev pub registers : ℕ
-registers = 16
-
-abbrev pub ports : ℕ
-ports = 8
 
 -- in the place of a register's number: the operand is the literal imm
 abbrev pub literalMark : ℕ

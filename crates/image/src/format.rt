@@ -20,6 +20,11 @@ pub const MOST_R: usize = 32;
 
 pub const MOST_D: usize = 4_096;
 
+// How many registers and output ports an instruction can name.
+pub const REGISTERS: usize = 16;
+
+pub const PORTS: u32 = 8;
+
 // The most bytes that an image has.
 pub const LARGEST: usize = HEADER + INSTRUCTION * MOST_N + REGION * MOST_R + MOST_D;
 

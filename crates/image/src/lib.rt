@@ -68,19 +68,6 @@ pub enum Instruction {
     },
 }
 
-// The row of an op, before its fields are looked at; ops above the last have none.
-pub enum Row {
-    Stops,
-    Moves,
-    Computes(Operation),
-    Loads(Width),
-    Stores(Width),
-    Jumps,
-    Emits,
-    Marks(bool),
-    Missing,
-}
-
 // An instruction, or the index of the one that breaks its row.
 pub enum Decoded {
     Valid(Instruction),

@@ -4,15 +4,32 @@ use super::Decoded;
 use super::Instruction;
 use super::Operand;
 use super::Operation;
-use super::Row;
 use super::Width;
+use super::format;
 use super::format::INSTRUCTION;
+use super::format::PORTS;
 use super::words;
 ghost use mathlib.Core.Path.{_≡_};
 ghost use Rattle.image.specs.Rows.{rowOf, operandOk, rangeOk, fieldsOk, operandOf, built, decoded, decodeAt};
 
+// The row of an op, before its fields are looked at; ops above the last have none.
+enum Row {
+    Stops,
+    Moves,
+    Computes(Operation),
+    Loads(Width),
+    Stores(Width),
+    Jumps,
+    Emits,
+    Marks(bool),
+    Missing,
+}
+
+// How many ops there are.
+const OPS: usize = 21;
+
 // The row of op 0, of op 1, ..
-const ROWS: [Row; 21] = [
+const ROWS: [Row; OPS] = [
     Row::Stops,
     Row::Moves,
     Row::Computes(Operation::Add),
@@ -36,9 +53,7 @@ const ROWS: [Row; 21] = [
     Row::Marks(false),
 ];
 
-const REGISTERS: u8 = 16;
-
-const PORTS: u32 = 8;
+const REGISTERS: u8 = format::REGISTERS as u8;
 
 // In the place of a register's number: the operand is the literal imm.
 const LITERAL: u8 = 255;
@@ -50,7 +65,7 @@ fn row_of(op: u8) -> Row
     ensures { λ r. ⌜ r ≡ rowOf op ⌝ }
 {
     let k = op as usize;
-    if k < 21 { ROWS[k] } else { Row::Missing }
+    if k < OPS { ROWS[k] } else { Row::Missing }
 }
 
 fn operand_ok(b: u8, imm: u32) -> bool

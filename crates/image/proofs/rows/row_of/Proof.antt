@@ -1,7 +1,7 @@
 use Rattle.image.proofs.Parts.{getD-any}
 use lib.ListN.{List·getD-eq-default}
 use Rattle.image.specs.Rows.{rows}
-use Rattle.image.specs.declared.Row.the-variants.{Missing}
+use Rattle.image.specs.declared.rows.Row.the-variants.{Missing}
 use Rattle.image.specs.Rows.{rowOf}
 use borrow.Author.Needs.{needs}
 use borrow.Author.Tests.{lt-ltb, le-ltb, le-leb, lt-leb, eq-eqb, ne-eqb}

@@ -1,0 +1,209 @@
+// Instructions, one line each: op, d, a, b and imm, then what they decode to in an image of 4
+// instructions and 16 bytes of memory.
+use super::show::number;
+use super::show::text;
+use super::show::word;
+use image::Decoded;
+use image::Instruction;
+use image::Operand;
+use image::Width;
+use rules::Operation;
+
+const N: usize = 4;
+
+const M: usize = 16;
+
+fn name(op: Operation) {
+    match op {
+        Operation::Add => text(b"ADD"),
+        Operation::Sub => text(b"SUB"),
+        Operation::Mul => text(b"MUL"),
+        Operation::And => text(b"AND"),
+        Operation::Or => text(b"OR"),
+        Operation::Xor => text(b"XOR"),
+        Operation::Shl => text(b"SHL"),
+        Operation::Shr => text(b"SHR"),
+        Operation::Sar => text(b"SAR"),
+        Operation::Eq => text(b"EQ"),
+        Operation::Ltu => text(b"LTU"),
+    }
+}
+
+fn operand(b: Operand) {
+    match b {
+        Operand::Register(r) => number(b" register ", r as usize),
+        Operand::Literal(x) => word(b" literal ", x.0),
+    }
+}
+
+fn width(w: Width) {
+    match w {
+        Width::Byte => text(b"8"),
+        Width::Word => text(b"32"),
+    }
+}
+
+fn access(kind: &[u8], w: Width, d: u8, a: u8, imm: u32) {
+    text(kind);
+    width(w);
+    number(b" d ", d as usize);
+    number(b" a ", a as usize);
+    word(b" imm ", imm);
+}
+
+fn mark(addressable: bool, start: u32, size: u32) {
+    if addressable {
+        text(b"OPEN");
+    } else {
+        text(b"CLOSE");
+    }
+    number(b" start ", start as usize);
+    number(b" length ", size as usize);
+}
+
+fn instruction(i: Instruction) {
+    match i {
+        Instruction::Stop => text(b"STOP"),
+        Instruction::Move { d, b } => {
+            number(b"MOV d ", d as usize);
+            operand(b);
+        }
+        Instruction::Compute { op, d, a, b } => {
+            name(op);
+            number(b" d ", d as usize);
+            number(b" a ", a as usize);
+            operand(b);
+        }
+        Instruction::Load {
+            width: w,
+            d,
+            a,
+            imm,
+        } => access(b"LD", w, d, a, imm),
+        Instruction::Store {
+            width: w,
+            d,
+            a,
+            imm,
+        } => access(b"ST", w, d, a, imm),
+        Instruction::Jump { a, target } => {
+            number(b"JNZ a ", a as usize);
+            number(b" to ", target as usize);
+        }
+        Instruction::Emit { a, port } => {
+            number(b"EMIT a ", a as usize);
+            number(b" port ", port as usize);
+        }
+        Instruction::Mark {
+            addressable,
+            start,
+            size,
+        } => mark(addressable, start, size),
+    }
+}
+
+fn decoded(x: Decoded) {
+    match x {
+        Decoded::Valid(i) => instruction(i),
+        Decoded::Fault(i) => number(b"fault at ", i),
+    }
+    text(b"\n");
+}
+
+fn row(op: u8, d: u8, a: u8, b: u8, imm: u32) {
+    let mut code = [op, d, a, b, 0, 0, 0, 0];
+    code[4] = rules::bytes::byte(imm, 0);
+    code[5] = rules::bytes::byte(imm, 1);
+    code[6] = rules::bytes::byte(imm, 2);
+    code[7] = rules::bytes::byte(imm, 3);
+    number(b"", op as usize);
+    number(b" ", d as usize);
+    number(b" ", a as usize);
+    number(b" ", b as usize);
+    word(b" ", imm);
+    text(b": ");
+    decoded(image::decode(&code, 0, N, M));
+}
+
+// Every row, at the ends of its fields.
+pub fn valid() {
+    row(0, 0, 0, 0, 0);
+    row(1, 15, 0, 15, 0);
+    row(1, 0, 0, 255, 0xdead_beef);
+    row(2, 1, 2, 3, 0);
+    row(3, 1, 2, 3, 0);
+    row(4, 1, 2, 3, 0);
+    row(5, 1, 2, 3, 0);
+    row(6, 1, 2, 3, 0);
+    row(7, 1, 2, 3, 0);
+    row(8, 1, 2, 3, 0);
+    row(9, 1, 2, 3, 0);
+    row(10, 1, 2, 3, 0);
+    row(11, 1, 2, 3, 0);
+    row(12, 1, 2, 3, 0);
+    row(2, 15, 15, 15, 0);
+    row(12, 0, 0, 255, 0);
+    row(13, 15, 0, 0, 0xffff_ffff);
+    row(14, 0, 15, 0, 0);
+    row(15, 15, 0, 0, 0x0102_0304);
+    row(16, 0, 15, 0, 1);
+    row(17, 0, 15, 0, 3);
+    row(18, 0, 15, 0, 7);
+    row(19, 0, 0, 0, 0x0008_0008);
+    row(19, 0, 0, 0, 0x0001_000f);
+    row(20, 0, 0, 0, 0x0010_0000);
+}
+
+// One step past an end, an unused field that is not 0, an op with no row.
+pub fn faulty() {
+    row(0, 1, 0, 0, 0);
+    row(0, 0, 1, 0, 0);
+    row(0, 0, 0, 1, 0);
+    row(0, 0, 0, 0, 0x8000_0000);
+    row(1, 16, 0, 0, 0);
+    row(1, 0, 1, 0, 0);
+    row(1, 0, 0, 16, 0);
+    row(1, 0, 0, 254, 0);
+    row(1, 0, 0, 0, 1);
+    row(2, 16, 0, 0, 0);
+    row(2, 0, 16, 0, 0);
+    row(12, 0, 0, 16, 0);
+    row(12, 0, 0, 15, 0x8000_0000);
+    row(13, 16, 0, 0, 0);
+    row(14, 0, 16, 0, 0);
+    row(15, 0, 0, 1, 0);
+    row(16, 255, 0, 0, 0);
+    row(17, 0, 0, 0, 4);
+    row(17, 0, 0, 0, 0x8000_0000);
+    row(17, 1, 0, 0, 0);
+    row(17, 0, 16, 0, 0);
+    row(17, 0, 0, 1, 0);
+    row(18, 0, 0, 0, 8);
+    row(18, 1, 0, 0, 0);
+    row(18, 0, 16, 0, 0);
+    row(18, 0, 0, 255, 0);
+    row(19, 0, 0, 0, 0x0009_0008);
+    row(19, 0, 0, 0, 0x0000_0008);
+    row(19, 0, 0, 0, 0xffff_ffff);
+    row(19, 1, 0, 0, 0x0001_0000);
+    row(20, 0, 0, 0, 0x0010_0001);
+    row(20, 0, 1, 0, 0x0001_0000);
+    row(20, 0, 0, 1, 0x0001_0000);
+    row(21, 0, 0, 0, 0);
+    row(255, 0, 0, 0, 0);
+}
+
+// Code that ends before the eight bytes of an instruction.
+pub fn ends() {
+    let code = [0u8; 16];
+    text(b"index 0 of no bytes: ");
+    decoded(image::decode(&code[..0], 0, N, M));
+    text(b"index 0 of 7 bytes: ");
+    decoded(image::decode(&code[..7], 0, N, M));
+    text(b"index 1 of 15 bytes: ");
+    decoded(image::decode(&code[..15], 1, N, M));
+    text(b"index 1 of 16 bytes: ");
+    decoded(image::decode(&code, 1, N, M));
+    text(b"the highest index of 16 bytes: ");
+    decoded(image::decode(&code, 0xffff_ffff_ffff_ffff, N, M));
+}
