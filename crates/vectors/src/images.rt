@@ -1,5 +1,6 @@
 // Images, one line each: what was done to it, then the refusal and its index, M, N, R and D, and the
 // length of the code that the reader hands back.
+use super::rows;
 use super::show::number;
 use super::show::text;
 
@@ -70,12 +71,80 @@ fn put_region(image: &mut [u8], at: u16, start: u32, size: u32, kind: u32) {
     }
 }
 
-// The example with two of its bytes set.
-fn with(name: &[u8], at: usize, b: u8, and_at: usize, and_b: u8) {
+// A byte of the example and its new value, and another; or the same one twice.
+struct Change(u8, u8, u8, u8);
+
+const CHANGED: usize = 35;
+
+const CHANGES: [Change; CHANGED] = [
+    Change(0, 0x55, 0, 0x55), // the magic's first byte
+    Change(3, 0x32, 3, 0x32), // the magic's last byte
+    Change(4, 0, 4, 0), // M 0
+    Change(4, 0, 5, 16), // M 4096
+    Change(4, 1, 5, 16), // M 4097
+    Change(4, 16, 7, 1), // M with a high byte
+    Change(8, 0, 8, 0), // N 0
+    Change(8, 0, 9, 2), // N 512, of which 4 are there
+    Change(8, 1, 9, 2), // N 513
+    Change(16, 32, 16, 32), // R 32, of which one is there
+    Change(16, 33, 16, 33), // R 33
+    Change(24, 0, 25, 16), // D 4096, of which none are there
+    Change(24, 1, 25, 16), // D 4097
+    Change(24, 0, 27, 128), // D with a high byte
+    Change(12, 33, 12, 33), // code at 33
+    Change(20, 65, 20, 65), // regions at 65
+    Change(28, 77, 28, 77), // data at 77
+    Change(28, 76, 30, 1), // an offset with a high byte
+    Change(32, 21, 32, 21), // instruction 0: op 21
+    Change(43, 1, 43, 1), // instruction 1: LD32 with b 1
+    Change(52, 8, 52, 8), // instruction 2: port 8
+    Change(60, 1, 60, 1), // instruction 3: STOP with imm 1
+    Change(60, 1, 43, 1), // instructions 3 and 1
+    Change(72, 0, 72, 0), // region of kind 0
+    Change(72, 3, 72, 3), // region of kind 3
+    Change(68, 0, 68, 0), // region of length 0
+    Change(64, 12, 64, 12), // region from 12 to 16, which is M
+    Change(64, 13, 64, 13), // region from 13 to 17
+    Change(72, 1, 72, 1), // region filled, without data
+    Change(0, 0x55, 4, 0), // refusals 2 and 3
+    Change(4, 0, 12, 33), // 3 and 4
+    Change(12, 33, 32, 21), // 4 and 5
+    Change(60, 1, 72, 3), // 5 and 6
+    Change(60, 1, 72, 1), // 5 and 7
+    Change(64, 13, 72, 1), // 6 and 7
+];
+
+fn byte(s: &[u8], at: u8, b: u8) {
+    number(s, at as usize);
+    number(b" is ", b as usize);
+}
+
+fn read_changed(c: Change) {
     let mut image = SAMPLE;
-    put(&mut image, at, b);
-    put(&mut image, and_at, and_b);
-    read_front(name, &image, 76);
+    put(&mut image, c.0 as usize, c.1);
+    put(&mut image, c.2 as usize, c.3);
+    byte(b"byte ", c.0, c.1);
+    if c.0 != c.2 {
+        byte(b", byte ", c.2, c.3);
+    }
+    read_front(b"", &image, 76);
+}
+
+pub fn changes() {
+    let mut i = 0;
+    while i < CHANGED {
+        read_changed(CHANGES[i]);
+        i += 1;
+    }
+}
+
+// The four instructions of the example, from the code that the reader hands back.
+pub fn code() {
+    let code = image::code(&SAMPLE[..76]);
+    rows::decoded(image::decode(code, 0, 4, 16));
+    rows::decoded(image::decode(code, 1, 4, 16));
+    rows::decoded(image::decode(code, 2, 4, 16));
+    rows::decoded(image::decode(code, 3, 4, 16));
 }
 
 pub fn sample() {
@@ -88,93 +157,65 @@ pub fn sample() {
     let zeros = [0u8; 32];
     read(b"31 zeros", &zeros[..31]);
     read(b"32 zeros", &zeros);
-    with(b"first byte 55", 0, 0x55, 0, 0x55);
-    with(b"fourth byte 32", 3, 0x32, 3, 0x32);
 }
 
-pub fn limits() {
-    with(b"M 0", 4, 0, 5, 0);
-    with(b"M 4096", 4, 0, 5, 16);
-    with(b"M 4097", 4, 1, 5, 16);
-    with(b"M 16777232", 4, 16, 7, 1);
-    with(b"N 0", 8, 0, 9, 0);
-    with(b"N 512 of an image of 4", 8, 0, 9, 2);
-    with(b"N 513 of an image of 4", 8, 1, 9, 2);
-    with(b"R 32 of an image of 1", 16, 32, 17, 0);
-    with(b"R 33 of an image of 1", 16, 33, 17, 0);
-    with(b"D 4096 of an image of 0", 24, 0, 25, 16);
-    with(b"D 4097 of an image of 0", 24, 1, 25, 16);
-    with(b"D 2147483648", 24, 0, 27, 128);
+// Start, length and kind of two regions, and D.
+struct Pair(u32, u32, u32, u32, u32, u32, u8);
+
+const PAIRED: usize = 17;
+
+const PAIRS: [Pair; PAIRED] = [
+    Pair(0, 8, 2, 8, 4, 2, 0),
+    Pair(0, 8, 2, 7, 5, 2, 0),
+    Pair(8, 4, 2, 0, 8, 2, 0),
+    Pair(0, 8, 2, 60, 4, 2, 0),
+    Pair(0, 8, 2, 60, 5, 2, 0),
+    Pair(0, 8, 2, 8, 0, 2, 0),
+    Pair(0, 8, 2, 8, 4, 257, 0),
+    Pair(0, 8, 3, 8, 4, 3, 0),
+    Pair(0, 8, 2, 0xffff_ffff, 1, 2, 0),
+    Pair(0, 8, 2, 8, 0xffff_fff8, 2, 0),
+    Pair(8, 0xffff_fff8, 2, 0, 4, 2, 0),
+    Pair(0, 8, 1, 8, 4, 1, 12),
+    Pair(0, 8, 1, 8, 4, 1, 8),
+    Pair(0, 8, 1, 8, 4, 1, 13),
+    Pair(0, 8, 1, 8, 4, 2, 8),
+    Pair(0, 8, 1, 8, 4, 2, 12),
+    Pair(0, 8, 2, 8, 4, 1, 4),
+];
+
+fn three(s: &[u8], start: u32, size: u32, kind: u32) {
+    number(s, start as usize);
+    number(b" ", size as usize);
+    number(b" ", kind as usize);
 }
 
-pub fn layout() {
-    with(b"code at 33", 12, 33, 12, 33);
-    with(b"regions at 65", 20, 65, 20, 65);
-    with(b"data at 77", 28, 77, 28, 77);
-    with(b"data at 65612", 28, 76, 30, 1);
+// One instruction, STOP, and two regions, with 64 bytes of memory.
+fn put_pair(image: &mut [u8], p: Pair) {
+    put_magic(image);
+    put_counts(image, 64, 1, 2, p.6 as u32);
+    put_offsets(image, 32, 40, 64);
+    put_region(image, 40, p.0, p.1, p.2);
+    put_region(image, 52, p.3, p.4, p.5);
 }
 
-pub fn content() {
-    with(b"instruction 0 with op 21", 32, 21, 32, 21);
-    with(b"instruction 1 with b 1", 43, 1, 43, 1);
-    with(b"instruction 2 with port 8", 52, 8, 52, 8);
-    with(b"instruction 3 with imm 1", 60, 1, 60, 1);
-    with(b"instructions 3 and 1", 60, 1, 43, 1);
-    with(b"region kind 0", 72, 0, 72, 0);
-    with(b"region kind 3", 72, 3, 72, 3);
-    with(b"region length 0", 68, 0, 68, 0);
-    with(b"region from 12 to 16, which is M", 64, 12, 64, 12);
-    with(b"region from 13 to 17", 64, 13, 64, 13);
-    with(b"region filled, without data", 72, 1, 72, 1);
-}
-
-pub fn two_faults() {
-    with(b"2 and 3", 0, 0x55, 4, 0);
-    with(b"3 and 4", 4, 0, 12, 33);
-    with(b"4 and 5", 12, 33, 32, 21);
-    with(b"5 and 6", 60, 1, 72, 3);
-    with(b"6 and 7", 64, 13, 72, 1);
-    with(b"5 and 7", 60, 1, 72, 1);
-}
-
-// An image of one instruction, STOP, of two regions and of d bytes of data, with 64 bytes of memory.
-fn two(name: &[u8], s0: u32, l0: u32, k0: u32, s1: u32, l1: u32, k1: u32, d: u8) {
+// The image of two regions and of D zeros.
+fn read_pair(p: Pair) {
+    let d = p.6 as usize;
     let mut image = [0u8; 319];
-    put_magic(&mut image);
-    put_counts(&mut image, 64, 1, 2, d as u32);
-    put_offsets(&mut image, 32, 40, 64);
-    put_region(&mut image, 40, s0, l0, k0);
-    put_region(&mut image, 52, s1, l1, k1);
-    read_front(name, &image, 64 + d as usize);
+    put_pair(&mut image, p);
+    three(b"regions ", p.0, p.1, p.2);
+    three(b", ", p.3, p.4, p.5);
+    number(b", D ", d);
+    read_front(b"", &image, 64 + d);
 }
 
-pub fn regions() {
-    two(b"0 to 8, 8 to 12", 0, 8, 2, 8, 4, 2, 0);
-    two(b"0 to 8, 7 to 12", 0, 8, 2, 7, 5, 2, 0);
-    two(b"8 to 12, 0 to 8", 8, 4, 2, 0, 8, 2, 0);
-    two(b"0 to 8, 60 to 64", 0, 8, 2, 60, 4, 2, 0);
-    two(b"0 to 8, 60 to 65", 0, 8, 2, 60, 5, 2, 0);
-    two(b"0 to 8, 8 to 8", 0, 8, 2, 8, 0, 2, 0);
-    two(b"0 to 8, 8 to 12 of kind 257", 0, 8, 2, 8, 4, 257, 0);
-    two(b"both of kind 3", 0, 8, 3, 8, 4, 3, 0);
-    two(
-        b"0 to 8, 4294967295 to 4294967296",
-        0,
-        8,
-        2,
-        0xffff_ffff,
-        1,
-        2,
-        0,
-    );
-    two(b"0 to 8, 8 to 4294967296", 0, 8, 2, 8, 0xffff_fff8, 2, 0);
-    two(b"8 to 4294967296, 0 to 4", 8, 0xffff_fff8, 2, 0, 4, 2, 0);
-    two(b"8 and 4 filled, D 12", 0, 8, 1, 8, 4, 1, 12);
-    two(b"8 and 4 filled, D 8", 0, 8, 1, 8, 4, 1, 8);
-    two(b"8 and 4 filled, D 13", 0, 8, 1, 8, 4, 1, 13);
-    two(b"8 filled and 4 not, D 8", 0, 8, 1, 8, 4, 2, 8);
-    two(b"8 filled and 4 not, D 12", 0, 8, 1, 8, 4, 2, 12);
-    two(b"8 not filled and 4 filled, D 4", 0, 8, 2, 8, 4, 1, 4);
+pub fn pairs() {
+    let mut i = 0;
+    while i < PAIRED {
+        read_pair(PAIRS[i]);
+        i += 1;
+    }
 }
 
 // An image of one instruction and nothing else, with 16 bytes of memory.

@@ -8,15 +8,12 @@ mod words; // words.rt: operations on words
 fn main() {
     words::pinned();
     words::ours();
-    rows::valid();
-    rows::faulty();
+    rows::table();
     rows::ends();
+    images::code();
     images::sample();
-    images::limits();
-    images::layout();
-    images::content();
-    images::two_faults();
-    images::regions();
+    images::changes();
+    images::pairs();
     images::ranges();
     images::largest();
     images::longest_code();

@@ -102,7 +102,7 @@ fn instruction(i: Instruction) {
     }
 }
 
-fn decoded(x: Decoded) {
+pub fn decoded(x: Decoded) {
     match x {
         Decoded::Valid(i) => instruction(i),
         Decoded::Fault(i) => number(b"fault at ", i),
@@ -110,87 +110,98 @@ fn decoded(x: Decoded) {
     text(b"\n");
 }
 
-fn row(op: u8, d: u8, a: u8, b: u8, imm: u32) {
-    let mut code = [op, d, a, b, 0, 0, 0, 0];
+// op, d, a, b and imm.
+struct Fields(u8, u8, u8, u8, u32);
+
+// Every row at the ends of its fields; then one step past an end, an unused field that is not 0, an
+// op with no row.
+const TABLE: [Fields; 60] = [
+    Fields(0, 0, 0, 0, 0),
+    Fields(1, 15, 0, 15, 0),
+    Fields(1, 0, 0, 255, 0xdead_beef),
+    Fields(2, 1, 2, 3, 0),
+    Fields(3, 1, 2, 3, 0),
+    Fields(4, 1, 2, 3, 0),
+    Fields(5, 1, 2, 3, 0),
+    Fields(6, 1, 2, 3, 0),
+    Fields(7, 1, 2, 3, 0),
+    Fields(8, 1, 2, 3, 0),
+    Fields(9, 1, 2, 3, 0),
+    Fields(10, 1, 2, 3, 0),
+    Fields(11, 1, 2, 3, 0),
+    Fields(12, 1, 2, 3, 0),
+    Fields(2, 15, 15, 15, 0),
+    Fields(12, 0, 0, 255, 0),
+    Fields(13, 15, 0, 0, 0xffff_ffff),
+    Fields(14, 0, 15, 0, 0),
+    Fields(15, 15, 0, 0, 0x0102_0304),
+    Fields(16, 0, 15, 0, 1),
+    Fields(17, 0, 15, 0, 3),
+    Fields(18, 0, 15, 0, 7),
+    Fields(19, 0, 0, 0, 0x0008_0008),
+    Fields(19, 0, 0, 0, 0x0001_000f),
+    Fields(20, 0, 0, 0, 0x0010_0000),
+    Fields(0, 1, 0, 0, 0),
+    Fields(0, 0, 1, 0, 0),
+    Fields(0, 0, 0, 1, 0),
+    Fields(0, 0, 0, 0, 0x8000_0000),
+    Fields(1, 16, 0, 0, 0),
+    Fields(1, 0, 1, 0, 0),
+    Fields(1, 0, 0, 16, 0),
+    Fields(1, 0, 0, 254, 0),
+    Fields(1, 0, 0, 0, 1),
+    Fields(2, 16, 0, 0, 0),
+    Fields(2, 0, 16, 0, 0),
+    Fields(12, 0, 0, 16, 0),
+    Fields(12, 0, 0, 15, 0x8000_0000),
+    Fields(13, 16, 0, 0, 0),
+    Fields(14, 0, 16, 0, 0),
+    Fields(15, 0, 0, 1, 0),
+    Fields(16, 255, 0, 0, 0),
+    Fields(17, 0, 0, 0, 4),
+    Fields(17, 0, 0, 0, 0x8000_0000),
+    Fields(17, 1, 0, 0, 0),
+    Fields(17, 0, 16, 0, 0),
+    Fields(17, 0, 0, 1, 0),
+    Fields(18, 0, 0, 0, 8),
+    Fields(18, 1, 0, 0, 0),
+    Fields(18, 0, 16, 0, 0),
+    Fields(18, 0, 0, 255, 0),
+    Fields(19, 0, 0, 0, 0x0009_0008),
+    Fields(19, 0, 0, 0, 0x0000_0008),
+    Fields(19, 0, 0, 0, 0xffff_ffff),
+    Fields(19, 1, 0, 0, 0x0001_0000),
+    Fields(20, 0, 0, 0, 0x0010_0001),
+    Fields(20, 0, 1, 0, 0x0001_0000),
+    Fields(20, 0, 0, 1, 0x0001_0000),
+    Fields(21, 0, 0, 0, 0),
+    Fields(255, 0, 0, 0, 0),
+];
+
+const CASES: usize = 60;
+
+fn row(f: Fields) {
+    let imm = f.4;
+    let mut code = [f.0, f.1, f.2, f.3, 0, 0, 0, 0];
     code[4] = rules::bytes::byte(imm, 0);
     code[5] = rules::bytes::byte(imm, 1);
     code[6] = rules::bytes::byte(imm, 2);
     code[7] = rules::bytes::byte(imm, 3);
-    number(b"", op as usize);
-    number(b" ", d as usize);
-    number(b" ", a as usize);
-    number(b" ", b as usize);
+    number(b"", f.0 as usize);
+    number(b" ", f.1 as usize);
+    number(b" ", f.2 as usize);
+    number(b" ", f.3 as usize);
     word(b" ", imm);
     text(b": ");
     decoded(image::decode(&code, 0, N, M));
 }
 
-// Every row, at the ends of its fields.
-pub fn valid() {
-    row(0, 0, 0, 0, 0);
-    row(1, 15, 0, 15, 0);
-    row(1, 0, 0, 255, 0xdead_beef);
-    row(2, 1, 2, 3, 0);
-    row(3, 1, 2, 3, 0);
-    row(4, 1, 2, 3, 0);
-    row(5, 1, 2, 3, 0);
-    row(6, 1, 2, 3, 0);
-    row(7, 1, 2, 3, 0);
-    row(8, 1, 2, 3, 0);
-    row(9, 1, 2, 3, 0);
-    row(10, 1, 2, 3, 0);
-    row(11, 1, 2, 3, 0);
-    row(12, 1, 2, 3, 0);
-    row(2, 15, 15, 15, 0);
-    row(12, 0, 0, 255, 0);
-    row(13, 15, 0, 0, 0xffff_ffff);
-    row(14, 0, 15, 0, 0);
-    row(15, 15, 0, 0, 0x0102_0304);
-    row(16, 0, 15, 0, 1);
-    row(17, 0, 15, 0, 3);
-    row(18, 0, 15, 0, 7);
-    row(19, 0, 0, 0, 0x0008_0008);
-    row(19, 0, 0, 0, 0x0001_000f);
-    row(20, 0, 0, 0, 0x0010_0000);
-}
-
-// One step past an end, an unused field that is not 0, an op with no row.
-pub fn faulty() {
-    row(0, 1, 0, 0, 0);
-    row(0, 0, 1, 0, 0);
-    row(0, 0, 0, 1, 0);
-    row(0, 0, 0, 0, 0x8000_0000);
-    row(1, 16, 0, 0, 0);
-    row(1, 0, 1, 0, 0);
-    row(1, 0, 0, 16, 0);
-    row(1, 0, 0, 254, 0);
-    row(1, 0, 0, 0, 1);
-    row(2, 16, 0, 0, 0);
-    row(2, 0, 16, 0, 0);
-    row(12, 0, 0, 16, 0);
-    row(12, 0, 0, 15, 0x8000_0000);
-    row(13, 16, 0, 0, 0);
-    row(14, 0, 16, 0, 0);
-    row(15, 0, 0, 1, 0);
-    row(16, 255, 0, 0, 0);
-    row(17, 0, 0, 0, 4);
-    row(17, 0, 0, 0, 0x8000_0000);
-    row(17, 1, 0, 0, 0);
-    row(17, 0, 16, 0, 0);
-    row(17, 0, 0, 1, 0);
-    row(18, 0, 0, 0, 8);
-    row(18, 1, 0, 0, 0);
-    row(18, 0, 16, 0, 0);
-    row(18, 0, 0, 255, 0);
-    row(19, 0, 0, 0, 0x0009_0008);
-    row(19, 0, 0, 0, 0x0000_0008);
-    row(19, 0, 0, 0, 0xffff_ffff);
-    row(19, 1, 0, 0, 0x0001_0000);
-    row(20, 0, 0, 0, 0x0010_0001);
-    row(20, 0, 1, 0, 0x0001_0000);
-    row(20, 0, 0, 1, 0x0001_0000);
-    row(21, 0, 0, 0, 0);
-    row(255, 0, 0, 0, 0);
+pub fn table() {
+    let mut i = 0;
+    while i < CASES {
+        row(TABLE[i]);
+        i += 1;
+    }
 }
 
 // Code that ends before the eight bytes of an instruction.
