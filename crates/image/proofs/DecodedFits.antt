@@ -1,17 +1,15 @@
 -- How far the fields of a decoded instruction reach, and that every index of an accepted image has one.
-use Prim.Native.Nat.{ℕ, _+_, _*_, _/_, _%_, _^_, _≤_, _<_}
-use mathlib.Core.Path.{_≡_, refl, sym, _∙_, ap, subst}
-use mathlib.Core.Logic.{⊎-elim}
-use mathlib.Core.Bool.{Bool, true, false, cond, _&&_, _||_}
+use Prim.Native.Nat.{ℕ, _+_, _*_, _/_, _^_, _<_}
+use mathlib.Core.Path.{_≡_, refl, sym, subst}
+use mathlib.Core.Bool.{Bool, true, false, cond, _&&_}
 use mathlib.Core.List.{List}
-use native.Mathlib.Omega.{arith}
 use lib.Dec.{ltb, leb, eqb}
 use lib.ListN.{length, getD}
-use borrow.Author.Tests.{ltb-true, leb-true, eqb-true}
+use borrow.Author.Tests.{ltb-true, leb-true}
 use Rattle.rules.proofs.ByteLaws.{joined-lt}
 use Rattle.image.specs.Words.{nthWord, Bytes}
 use Rattle.image.specs.Format.{headerSize, instructionSize, ports, fieldM, fieldN, codePart}
-use Rattle.image.specs.Rows.{rowOf, literalMark, isRegister, operandOk, rangeStart, rangeLength, rangeOk, fieldsOk, operandOf, built, decoded, decodeAt}
+use Rattle.image.specs.Rows.{literalMark, isRegister, operandOk, rangeStart, rangeLength, rangeOk, fieldsOk, operandOf, built, decoded, decodeAt}
 use Rattle.image.specs.Accepted.{Accepted, OperandFits, Fits}
 use Rattle.image.specs.declared.Instruction.{Instruction}
 use Rattle.image.specs.declared.rows.Row.{Row}
@@ -19,7 +17,7 @@ use Rattle.image.specs.declared.rows.Row.the-variants.{Stops, Moves, Com
 use Rattle.image.specs.declared.Decoded.{Decoded}
 use Rattle.image.specs.declared.Decoded.the-variants.{Valid, Fault}
 use Rattle.image.proofs.Parts.{bytes-part}
-use Rattle.image.proofs.Tests.{apart, both, all-four, either}
+use Rattle.image.proofs.Tests.{apart, both, all-four}
 
 pub word-lt : (s : List ℕ) (k : ℕ) → Bytes s → nthWord s k < 2 ^ 32
 unfolding nthWord

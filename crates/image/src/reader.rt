@@ -12,7 +12,7 @@ use super::regions;
 use super::rows;
 use super::words;
 ghost use mathlib.Core.Path.{_≡_};
-ghost use Prim.Native.Nat.{_+_, _*_, _≤_, _<_, _^_};
+ghost use Prim.Native.Nat.{_≤_, _<_, _^_};
 ghost use lib.ListN.{length};
 ghost use Rattle.image.specs.Format.{headerSize, magicOk, limitsOk, layoutOk};
 ghost use Rattle.image.specs.Refusals.{refused, codeRefusal, regionRefusal, contentRefusal, refusalOf, headerOf, codeOf};

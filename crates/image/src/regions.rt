@@ -3,7 +3,7 @@ use super::Region;
 use super::format::REGION;
 use super::words;
 ghost use mathlib.Core.Path.{_≡_};
-ghost use Prim.Native.Nat.{_+_, _*_, _≤_, _<_, _^_};
+ghost use Prim.Native.Nat.{_<_, _^_};
 ghost use Rattle.image.specs.Regions.{regionAt, endOf, endBefore, regionOk, filledOf, filledSum};
 
 // The kinds: the image has its bytes; addressable but undefined.
@@ -62,11 +62,8 @@ pub fn region_ok(regions: &[u8], m: usize, i: usize) -> bool
 fn filled_of(found: Region) -> usize
     ensures { λ r. ⌜ (r ≡ filledOf found) × (r < 2 ^ 32) ⌝ }
 {
-    if found.kind == FILLED {
-        found.size as usize
-    } else {
-        0
-    }
+    let size = found.size as usize;
+    if found.kind == FILLED { size } else { 0 }
 }
 
 // How many bytes of data belong to the first r regions.

@@ -1,10 +1,10 @@
 use borrow.Author.Needs.{needs}
-use mathlib.Core.Path.{_≡_, sym, subst}
-use Prim.Native.Nat.{ℕ, _≤_}
+use mathlib.Core.Path.{sym, subst}
+use Prim.Native.Nat.{_≤_}
 use denote.Ref.{now}
 use native.Mathlib.Omega.{arith}
 use Rattle.image.specs.Format.{mostN}
-use Rattle.image.specs.Refusals.{headerOf, codeOf}
+use Rattle.image.specs.Refusals.{codeOf}
 use Rattle.image.specs.declared.Header.{Header}
 use Rattle.image.proofs.AcceptedImage.{header-code}
 use Rattle.image.proofs.reader.code.Statement.{statement}
