@@ -10,7 +10,7 @@ use lib.ListN.{length, getD, take}
 use lib.Seq.{ext-getD, getD-take, length-take-le}
 use borrow.Author.Tests.{leb-true, eqb-true, le-leb, eq-eqb}
 use Rattle.image.specs.Words.{nthWord}
-use Rattle.image.specs.Format.{magic, headerSize, mostM, mostN, mostR, mostD, regionsAt, dataAt, sizeOf, fieldM, fieldN, fieldR, fieldD, magicOk, limitsOk, layoutOk, codePart, regionPart}
+use Rattle.image.specs.Format.{magic, largest, headerSize, mostM, mostN, mostR, mostD, regionsAt, dataAt, sizeOf, fieldM, fieldN, fieldR, fieldD, magicOk, limitsOk, layoutOk, codePart, regionPart}
 use Rattle.image.specs.Regions.{filledKind, undefinedKind, endOf, regionKeeps, regionOk, filledSum}
 use Rattle.image.specs.Refusals.{tooShort, wrongMagic, outOfLimits, wrongLayout, badInstruction, badRegion, wrongSum, refused, accepted, unless, orElse, isValid, instructionOk, codeRefusal, regionRefusal, contentRefusal, refusalWith, refusalOf, headerOf}
 use Rattle.image.specs.Accepted.{Limits, Layout, Keeps, AcceptedWith, Accepted}
@@ -163,3 +163,7 @@ header-code s = go (eqb (refusalOf s .number) 0) refl
     go : (t : Bool) → eqb (refusalOf s .number) 0 ≡ t → headerOf s .n ≤ mostN
     go true e = rw e (accepted-image s (eqb-true _ _ e) .limits .code)
     go false e = rw e (omega arith)
+
+-- no accepted image is larger
+pub accepted-small : (s : List ℕ) → Accepted s → length s ≤ largest
+accepted-small s a = omega (arith, a .layout .size, a .limits .code, a .limits .regions, a .limits .held)

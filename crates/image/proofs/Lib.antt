@@ -4,3 +4,4 @@ pub mod Faults
 pub mod RegionLaws
 pub mod AcceptedImage
 pub mod DecodedFits
+pub mod Example

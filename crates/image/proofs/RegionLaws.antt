@@ -1,8 +1,10 @@
 -- The regions, as loops that count up and back meet them.
-use Prim.Native.Nat.{ℕ, zero, suc, _+_, _-_}
+use Prim.Native.Nat.{ℕ, zero, suc, _+_, _-_, _≤_, _<_}
 use mathlib.Core.Path.{_≡_, refl, ap}
+use mathlib.Core.Logic.{⊎-elim}
 use mathlib.Core.List.{List}
 use native.Mathlib.Numerals.{add-one}
+use native.Mathlib.Nat.{eq-or-lt-of-le}
 use native.Mathlib.Omega.{arith}
 use Rattle.image.specs.Regions.{regionAt, endOf, endBefore, filledOf, filledSum}
 
@@ -14,3 +16,9 @@ end-after regions (suc i) h = ap (λ (k : ℕ). endOf (regionAt regions k)) (ome
 pub filled-next : (regions : List ℕ) (i : ℕ) → filledSum regions (i + 1) ≡ filledSum regions i + filledOf (regionAt regions i)
 unfolding filledSum
 filled-next regions i = rw (add-one i)
+
+-- the data of the first regions is no more than that of all
+pub filled-mono : (regions : List ℕ) (i j : ℕ) → i ≤ j → filledSum regions i ≤ filledSum regions j
+unfolding filledSum
+filled-mono regions i zero h = rw (let e : i ≡ 0 = omega arith in e) (omega arith)
+filled-mono regions i (suc j) h = ⊎-elim (λ (e : i ≡ suc j). rw e (omega arith)) (λ (l : i < suc j). omega (arith, filled-mono regions i j (omega arith))) (eq-or-lt-of-le h)

@@ -4,3 +4,4 @@ pub mod Rows
 pub mod Regions
 pub mod Refusals
 pub mod Accepted
+pub mod Example
