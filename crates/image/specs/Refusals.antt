@@ -49,7 +49,7 @@ unless ok number rest = cond ok rest (refused number 0)
 abbrev pub orElse : Refusal → Refusal → Refusal
 orElse first second = cond (eqb (first .number) 0) second first
 
--- this refusal at the lowest of the count indices from i on that fails the test
+-- this refusal with the lowest index at fault: the first of the indices from i on, as many as count says, that fails the test
 unfoldable pub firstFault : ℕ → (ℕ → Bool) → ℕ → ℕ → Refusal
 firstFault number ok i zero = accepted
 firstFault number ok i (suc count) = cond (ok i) (firstFault number ok (suc i) count) (refused number i)

@@ -55,7 +55,7 @@ isRegister x = ltb x registers
 
 -- B: a register with imm 0, or the literal imm
 abbrev pub operandOk : ℕ → ℕ → Bool
-operandOk b imm = eqb b literalMark || isRegister b && eqb imm 0
+operandOk b imm = eqb b literalMark || (isRegister b && eqb imm 0)
 
 -- the range of OPEN and CLOSE: start in the low half of imm, length in the high half
 abbrev pub rangeStart : ℕ → ℕ

@@ -156,7 +156,8 @@ pub fn read(image: &[u8]) -> Header
     }
 }
 
-// The code, as a part of the image; empty when refused.
+// The code, as a part of the image; empty when refused. It reads the image again: whoever has its
+// header takes `format::part`.
 pub fn code(image: &[u8]) -> &[u8]
     ensures { λ r. ⌜ now r ≡ codeOf (now (image .entry)) ⌝ }
 {

@@ -71,7 +71,7 @@ fn row_of(op: u8) -> Row
 fn operand_ok(b: u8, imm: u32) -> bool
     ensures { λ r. ⌜ r ≡ operandOk b imm ⌝ }
 {
-    (b == LITERAL) | (b < REGISTERS) & (imm == 0)
+    (b == LITERAL) | ((b < REGISTERS) & (imm == 0))
 }
 
 fn range_ok(imm: u32, m: usize) -> bool
