@@ -2,15 +2,14 @@
 use Prim.Native.Nat.{ℕ, zero, suc, _-_, _≤_, _<_}
 use mathlib.Core.Path.{_≡_, refl, sym, _∙_, ap}
 use mathlib.Core.Logic.{_⊎_, inl, inr, ⊎-elim}
-use mathlib.Core.Bool.{Bool, true, false, _||_}
+use mathlib.Core.Bool.{Bool, true, _||_}
 use mathlib.Core.List.{List}
 use native.Mathlib.Omega.{arith}
 use lib.Dec.{leb, eqb, lit<}
 use lib.ListN.{length, getD, take}
 use lib.Seq.{ext-getD, getD-take, length-take-le}
 use borrow.Author.Tests.{leb-true, eqb-true, le-leb, eq-eqb}
-use Rattle.image.specs.Words.{nthWord}
-use Rattle.image.specs.Format.{magic, largest, headerSize, mostM, mostN, mostR, mostD, regionsAt, dataAt, sizeOf, fieldM, fieldN, fieldR, fieldD, magicOk, limitsOk, layoutOk, codePart, regionPart}
+use Rattle.image.specs.Format.{magic, largest, headerSize, mostM, mostN, mostR, mostD, regionsAt, dataAt, sizeOf, fieldM, fieldN, fieldR, fieldD, codeOffset, regionOffset, dataOffset, magicOk, limitsOk, layoutOk, codePart, regionPart}
 use Rattle.image.specs.Regions.{filledKind, undefinedKind, endOf, regionKeeps, regionOk, filledSum}
 use Rattle.image.specs.Refusals.{tooShort, wrongMagic, outOfLimits, wrongLayout, badInstruction, badRegion, wrongSum, refused, accepted, unless, orElse, isValid, instructionOk, codeRefusal, regionRefusal, contentRefusal, refusalWith, refusalOf, headerOf}
 use Rattle.image.specs.Accepted.{Limits, Layout, Keeps, AcceptedWith, Accepted}
@@ -43,7 +42,7 @@ limits-pass l =
 
 layout-holds : (s : List ℕ) (n r d : ℕ) → layoutOk s n r d ≡ true → Layout s n r d
 layout-holds s n r d h =
-    let e = all-four (eqb (nthWord s 3) headerSize) (eqb (nthWord s 5) (regionsAt n)) (eqb (nthWord s 7) (dataAt n r)) (eqb (length s) (sizeOf n r d)) h in
+    let e = all-four (eqb (codeOffset s) headerSize) (eqb (regionOffset s) (regionsAt n)) (eqb (dataOffset s) (dataAt n r)) (eqb (length s) (sizeOf n r d)) h in
     record { code = eqb-true _ _ (e .0); regions = eqb-true _ _ (e .1); held = eqb-true _ _ (e .2); size = eqb-true _ _ (e .3) }
 
 layout-passes : {s : List ℕ} {n r d : ℕ} → Layout s n r d → layoutOk s n r d ≡ true
@@ -154,15 +153,6 @@ pub accepted-header : (s : List ℕ) → Accepted s
     → headerOf s ≡ record { m = fieldM s; n = fieldN s; r = fieldR s; d = fieldD s; refusal = accepted }
 unfolding headerOf
 accepted-header s a = rw (accepted-only s a)
-
--- the code of any answer is within the limit
-pub header-code : (s : List ℕ) → headerOf s .n ≤ mostN
-unfolding headerOf
-header-code s = go (eqb (refusalOf s .number) 0) refl
-  where
-    go : (t : Bool) → eqb (refusalOf s .number) 0 ≡ t → headerOf s .n ≤ mostN
-    go true e = rw e (accepted-image s (eqb-true _ _ e) .limits .code)
-    go false e = rw e (omega arith)
 
 -- no accepted image is larger
 pub accepted-small : (s : List ℕ) → Accepted s → length s ≤ largest

@@ -5,8 +5,7 @@ use mathlib.Core.Path.{_≡_}
 use mathlib.Core.Logic.{_⊎_}
 use mathlib.Core.List.{List}
 use lib.ListN.{length, take}
-use Rattle.image.specs.Words.{nthWord}
-use Rattle.image.specs.Format.{magic, headerSize, mostM, mostN, mostR, mostD, registers, ports, regionsAt, dataAt, sizeOf, fieldM, fieldN, fieldR, fieldD, codePart, regionPart}
+use Rattle.image.specs.Format.{magic, headerSize, mostM, mostN, mostR, mostD, registers, ports, regionsAt, dataAt, sizeOf, fieldM, fieldN, fieldR, fieldD, codeOffset, regionOffset, dataOffset, codePart, regionPart}
 use Rattle.image.specs.Rows.{decodeAt}
 use Rattle.image.specs.Regions.{filledKind, undefinedKind, regionAt, endOf, endBefore, filledSum}
 use Rattle.image.specs.declared.Operand.{Operand}
@@ -26,9 +25,9 @@ pub record Limits (m n r d : ℕ) : Type 0 where
 
 -- the offsets and the length
 pub record Layout (s : List ℕ) (n r d : ℕ) : Type 0 where
-  pub code : nthWord s 3 ≡ headerSize
-  pub regions : nthWord s 5 ≡ regionsAt n
-  pub held : nthWord s 7 ≡ dataAt n r
+  pub code : codeOffset s ≡ headerSize
+  pub regions : regionOffset s ≡ regionsAt n
+  pub held : dataOffset s ≡ dataAt n r
   pub size : length s ≡ sizeOf n r d
 
 -- a region that follows the end of the previous one, in M bytes of memory

@@ -40,7 +40,7 @@ registers = 16
 abbrev pub ports : ℕ
 ports = 8
 
--- where regions and data begin, and where an image ends
+-- where regions and data have to begin, and an image to end
 abbrev pub regionsAt : ℕ → ℕ
 regionsAt n = headerSize + instructionSize * n
 
@@ -67,6 +67,16 @@ fieldR s = nthWord s 4
 abbrev pub fieldD : List ℕ → ℕ
 fieldD s = nthWord s 6
 
+-- where the header says that code, regions and data begin
+abbrev pub codeOffset : List ℕ → ℕ
+codeOffset s = nthWord s 3
+
+abbrev pub regionOffset : List ℕ → ℕ
+regionOffset s = nthWord s 5
+
+abbrev pub dataOffset : List ℕ → ℕ
+dataOffset s = nthWord s 7
+
 -- ---- what the header has to keep
 abbrev pub magicOk : List ℕ → Bool
 magicOk s =
@@ -78,7 +88,7 @@ limitsOk m n r d = leb 1 m && leb m mostM && leb 1 n && leb n mostN && leb r mos
 -- the three offsets and the length are as computed
 abbrev pub layoutOk : List ℕ → ℕ → ℕ → ℕ → Bool
 layoutOk s n r d =
-    eqb (nthWord s 3) headerSize && eqb (nthWord s 5) (regionsAt n) && eqb (nthWord s 7) (dataAt n r) && eqb (length s) (sizeOf n r d)
+    eqb (codeOffset s) headerSize && eqb (regionOffset s) (regionsAt n) && eqb (dataOffset s) (dataAt n r) && eqb (length s) (sizeOf n r d)
 
 -- ---- the parts
 abbrev pub partOf : List ℕ → ℕ → ℕ → List ℕ

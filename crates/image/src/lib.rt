@@ -89,9 +89,9 @@ pub struct Refusal {
 
 // M, N, R and D, zeros when refused, and the refusal.
 pub struct Header {
-    pub m: usize,
-    pub n: usize,
-    pub r: usize,
-    pub d: usize,
+    pub m: u32,
+    pub n: u32,
+    pub r: u32,
+    pub d: u32,
     pub refusal: Refusal,
 }

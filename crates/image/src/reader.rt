@@ -4,15 +4,13 @@ use super::Header;
 use super::Refusal;
 use super::format;
 use super::format::HEADER;
-use super::format::INSTRUCTION;
 use super::format::MAGIC;
-use super::format::REGION;
 use super::refusals;
 use super::regions;
 use super::rows;
 use super::words;
 ghost use mathlib.Core.Path.{_≡_};
-ghost use Prim.Native.Nat.{_≤_, _<_, _^_};
+ghost use Prim.Native.Nat.{_≤_};
 ghost use lib.ListN.{length};
 ghost use Rattle.image.specs.Format.{headerSize, magicOk, limitsOk, layoutOk};
 ghost use Rattle.image.specs.Refusals.{refused, codeRefusal, regionRefusal, contentRefusal, refusalOf, headerOf, codeOf};
@@ -36,7 +34,7 @@ fn magic_ok(image: &[u8]) -> bool
         & (image[3] == MAGIC[3])
 }
 
-fn limits_ok(m: usize, n: usize, r: usize, d: usize) -> bool
+fn limits_ok(m: u32, n: u32, r: u32, d: u32) -> bool
     ensures { λ t. ⌜ t ≡ limitsOk m n r d ⌝ }
 {
     (1 <= m)
@@ -48,24 +46,24 @@ fn limits_ok(m: usize, n: usize, r: usize, d: usize) -> bool
 }
 
 // Whether the offsets and the length are as computed.
-fn layout_ok(image: &[u8], n: usize, r: usize, d: usize) -> bool
-    requires { ⌜ (headerSize ≤ length (now image)) × (n < 2 ^ 32) × (r < 2 ^ 32) × (d < 2 ^ 32) ⌝ }
+fn layout_ok(image: &[u8], n: u32, r: u32, d: u32) -> bool
+    requires { ⌜ headerSize ≤ length (now image) ⌝ }
     ensures { λ t. ⌜ t ≡ layoutOk (now (image .entry)) n r d ⌝ }
 {
-    let regions_at = HEADER + INSTRUCTION * n;
-    let data_at = regions_at + REGION * r;
-    (words::count(image, 3) == HEADER)
-        & (words::count(image, 5) == regions_at)
-        & (words::count(image, 7) == data_at)
-        & (image.len() == data_at + d)
+    let data_at = format::data_at(n, r);
+    (words::nth(image, format::WORD_CODE) as usize == HEADER)
+        & (words::nth(image, format::WORD_REGIONS) as usize == format::regions_at(n))
+        & (words::nth(image, format::WORD_DATA) as usize == data_at)
+        & (image.len() == data_at + d as usize)
 }
 
 // Refusal 5 at the first instruction that breaks its row.
-fn check_code(code: &[u8], n: usize, m: usize) -> Refusal
+fn check_code(code: &[u8], n: u32, m: u32) -> Refusal
     ensures { λ r. ⌜ r ≡ codeRefusal (now (code .entry)) n m ⌝ }
 {
+    let count = n as usize;
     let mut i = 0;
-    while i < n {
+    while i < count {
         let Decoded::Valid(_) = rows::decode(code, i, n, m) else {
             return refuse(refusals::BAD_INSTRUCTION, i);
         };
@@ -75,11 +73,12 @@ fn check_code(code: &[u8], n: usize, m: usize) -> Refusal
 }
 
 // Refusal 6 at the first region that breaks the rules.
-fn check_regions(regions: &[u8], r: usize, m: usize) -> Refusal
+fn check_regions(regions: &[u8], r: u32, m: u32) -> Refusal
     ensures { λ t. ⌜ t ≡ regionRefusal (now (regions .entry)) r m ⌝ }
 {
+    let count = r as usize;
     let mut i = 0;
-    while i < r {
+    while i < count {
         if !regions::region_ok(regions, m, i) {
             return refuse(refusals::BAD_REGION, i);
         }
@@ -89,8 +88,7 @@ fn check_regions(regions: &[u8], r: usize, m: usize) -> Refusal
 }
 
 // Refusals 5, 6 and 7, of an image that has its parts.
-fn check_content(code: &[u8], regions: &[u8], m: usize, n: usize, r: usize, d: usize) -> Refusal
-    requires { ⌜ r < 2 ^ 32 ⌝ }
+fn check_content(code: &[u8], regions: &[u8], m: u32, n: u32, r: u32, d: u32) -> Refusal
     ensures { λ t. ⌜ t ≡ contentRefusal (now (code .entry)) (now (regions .entry)) m n r d ⌝ }
 {
     let in_code = check_code(code, n, m);
@@ -101,7 +99,7 @@ fn check_content(code: &[u8], regions: &[u8], m: usize, n: usize, r: usize, d: u
     if in_regions.number != refusals::ACCEPTED {
         return in_regions;
     }
-    if regions::filled_sum(regions, r) != d {
+    if regions::filled_sum(regions, r) != d as usize {
         return refuse(refusals::WRONG_SUM, 0);
     }
     refuse(refusals::ACCEPTED, 0)
@@ -117,18 +115,18 @@ fn check(image: &[u8]) -> Refusal
     if !magic_ok(image) {
         return refuse(refusals::WRONG_MAGIC, 0);
     }
-    let m = words::count(image, 1);
-    let n = words::count(image, 2);
-    let r = words::count(image, 4);
-    let d = words::count(image, 6);
+    let m = words::nth(image, format::WORD_M);
+    let n = words::nth(image, format::WORD_N);
+    let r = words::nth(image, format::WORD_R);
+    let d = words::nth(image, format::WORD_D);
     if !limits_ok(m, n, r, d) {
         return refuse(refusals::OUT_OF_LIMITS, 0);
     }
     if !layout_ok(image, n, r, d) {
         return refuse(refusals::WRONG_LAYOUT, 0);
     }
-    let code = format::part(image, HEADER, INSTRUCTION * n);
-    let regions = format::part(image, HEADER + INSTRUCTION * n, REGION * r);
+    let code = format::code_part(image, n);
+    let regions = format::region_part(image, n, r);
     check_content(code, regions, m, n, r, d)
 }
 
@@ -139,10 +137,10 @@ pub fn read(image: &[u8]) -> Header
     let found = check(image);
     if found.number == refusals::ACCEPTED {
         Header {
-            m: words::count(image, 1),
-            n: words::count(image, 2),
-            r: words::count(image, 4),
-            d: words::count(image, 6),
+            m: words::nth(image, format::WORD_M),
+            n: words::nth(image, format::WORD_N),
+            r: words::nth(image, format::WORD_R),
+            d: words::nth(image, format::WORD_D),
             refusal: found,
         }
     } else {
@@ -157,11 +155,11 @@ pub fn read(image: &[u8]) -> Header
 }
 
 // The code, as a part of the image; empty when refused. It reads the image again: whoever has its
-// header takes `format::part`.
+// header takes `format::code_part`.
 pub fn code(image: &[u8]) -> &[u8]
     ensures { λ r. ⌜ now r ≡ codeOf (now (image .entry)) ⌝ }
 {
     let found = read(image);
     let n = found.n;
-    format::part(image, HEADER, INSTRUCTION * n)
+    format::code_part(image, n)
 }

@@ -47,14 +47,14 @@ fn end_before(regions: &[u8], i: usize) -> usize
 }
 
 // Whether region number i keeps the rules.
-pub fn region_ok(regions: &[u8], m: usize, i: usize) -> bool
+pub fn region_ok(regions: &[u8], m: u32, i: usize) -> bool
     ensures { λ r. ⌜ r ≡ regionOk (now (regions .entry)) m i ⌝ }
 {
     let found = region_at(regions, i);
     let before = end_before(regions, i);
     (1 <= found.size)
         & (before <= found.start as usize)
-        & (end_of(found) <= m)
+        & (end_of(found) <= m as usize)
         & ((found.kind == FILLED) | (found.kind == UNDEFINED))
 }
 
@@ -67,13 +67,13 @@ fn filled_of(found: Region) -> usize
 }
 
 // How many bytes of data belong to the first r regions.
-pub fn filled_sum(regions: &[u8], r: usize) -> usize
-    requires { ⌜ r < 2 ^ 32 ⌝ }
+pub fn filled_sum(regions: &[u8], r: u32) -> usize
     ensures { λ t. ⌜ t ≡ filledSum (now (regions .entry)) r ⌝ }
 {
+    let count = r as usize;
     let mut sum = 0;
     let mut i = 0;
-    while i < r {
+    while i < count {
         sum += filled_of(region_at(regions, i));
         i += 1;
     }

@@ -74,16 +74,16 @@ fn operand_ok(b: u8, imm: u32) -> bool
     (b == LITERAL) | ((b < REGISTERS) & (imm == 0))
 }
 
-fn range_ok(imm: u32, m: usize) -> bool
+fn range_ok(imm: u32, m: u32) -> bool
     ensures { λ r. ⌜ r ≡ rangeOk imm m ⌝ }
 {
-    let start = (imm % HALF) as usize;
-    let size = (imm / HALF) as usize;
+    let start = imm % HALF;
+    let size = imm / HALF;
     (1 <= size) & (start + size <= m)
 }
 
 // Whether the fields keep their row; an unused field is 0.
-fn fields_ok(row: Row, d: u8, a: u8, b: u8, imm: u32, n: usize, m: usize) -> bool
+fn fields_ok(row: Row, d: u8, a: u8, b: u8, imm: u32, n: u32, m: u32) -> bool
     ensures { λ r. ⌜ r ≡ fieldsOk row d a b imm n m ⌝ }
 {
     match row {
@@ -92,7 +92,7 @@ fn fields_ok(row: Row, d: u8, a: u8, b: u8, imm: u32, n: usize, m: usize) -> boo
         Row::Computes(_) => (d < REGISTERS) & (a < REGISTERS) & operand_ok(b, imm),
         Row::Loads(_) => (d < REGISTERS) & (a < REGISTERS) & (b == 0),
         Row::Stores(_) => (d < REGISTERS) & (a < REGISTERS) & (b == 0),
-        Row::Jumps => (d == 0) & (a < REGISTERS) & (b == 0) & ((imm as usize) < n),
+        Row::Jumps => (d == 0) & (a < REGISTERS) & (b == 0) & (imm < n),
         Row::Emits => (d == 0) & (a < REGISTERS) & (b == 0) & (imm < PORTS),
         Row::Marks(_) => (d == 0) & (a == 0) & (b == 0) & range_ok(imm, m),
         Row::Missing => false,
@@ -148,16 +148,7 @@ fn build(row: Row, d: u8, a: u8, b: u8, imm: u32) -> Instruction
     }
 }
 
-fn decode_fields(
-    row: Row,
-    d: u8,
-    a: u8,
-    b: u8,
-    imm: u32,
-    index: usize,
-    n: usize,
-    m: usize,
-) -> Decoded
+fn decode_fields(row: Row, d: u8, a: u8, b: u8, imm: u32, index: usize, n: u32, m: u32) -> Decoded
     ensures { λ r. ⌜ r ≡ decoded row d a b imm index n m ⌝ }
 {
     if fields_ok(row, d, a, b, imm, n, m) {
@@ -169,7 +160,7 @@ fn decode_fields(
 
 // Instruction number index of the code of an image with n instructions and m bytes of memory, or the
 // index where there is none that keeps its row.
-pub fn decode(code: &[u8], index: usize, n: usize, m: usize) -> Decoded
+pub fn decode(code: &[u8], index: usize, n: u32, m: u32) -> Decoded
     ensures { λ r. ⌜ r ≡ decodeAt (now (code .entry)) index n m ⌝ }
 {
     if index < code.len() / INSTRUCTION {

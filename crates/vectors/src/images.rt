@@ -15,10 +15,10 @@ fn read(name: &[u8], image: &[u8]) {
     text(name);
     number(b": refusal ", refusal.number as usize);
     number(b" at ", refusal.index);
-    number(b", M ", found.m);
-    number(b" N ", found.n);
-    number(b" R ", found.r);
-    number(b" D ", found.d);
+    number(b", M ", found.m as usize);
+    number(b" N ", found.n as usize);
+    number(b" R ", found.r as usize);
+    number(b" D ", found.d as usize);
     number(b", code ", code.len());
     text(b"\n");
 }

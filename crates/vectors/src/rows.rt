@@ -9,9 +9,9 @@ use image::Operand;
 use image::Width;
 use rules::Operation;
 
-const N: usize = 4;
+const N: u32 = 4;
 
-const M: usize = 16;
+const M: u32 = 16;
 
 fn name(op: Operation) {
     match op {

@@ -7,10 +7,10 @@ use Rattle.image.proofs.reader.check_code.Statement.{statement}
 use Rattle.image.proofs.reader.check_code.Tie as tie
 
 abbrev Inv-loop : tie.InvT-loop
-Inv-loop code n m i₀ i = (i ≤ n) × (firstFault badInstruction (instructionOk code n m) i (n - i) ≡ codeRefusal code n m)
+Inv-loop code n m count i₀ i = (i ≤ count) × (firstFault badInstruction (instructionOk code n m) i (count - i) ≡ codeRefusal code n m)
 
 abbrev μ-loop : tie.MeasureT-loop
-μ-loop code n m i₀ i = n - i
+μ-loop code n m count i₀ i = count - i
 
 pub check-code-spec : {M : Type 1} → statement M
 unfolding codeRefusal instructionOk

@@ -9,10 +9,10 @@ use Rattle.image.proofs.reader.check_regions.Statement.{statement}
 use Rattle.image.proofs.reader.check_regions.Tie as tie
 
 abbrev Inv-loop : tie.InvT-loop
-Inv-loop regions r m i₀ i = (i ≤ r) × (firstFault badRegion (regionOk regions m) i (r - i) ≡ regionRefusal regions r m)
+Inv-loop regions r m count i₀ i = (i ≤ count) × (firstFault badRegion (regionOk regions m) i (count - i) ≡ regionRefusal regions r m)
 
 abbrev μ-loop : tie.MeasureT-loop
-μ-loop regions r m i₀ i = r - i
+μ-loop regions r m count i₀ i = count - i
 
 pub check-regions-spec : {M : Type 1} → statement M
 unfolding regionRefusal

@@ -6,12 +6,13 @@ pub layout-ok-spec : {M : Type 1} → statement M
 layout-ok-spec =
     tie.close
     (tie.spec
-    (λ c. search needs)
-    (λ c. search needs)
-    (λ c. search needs)
-    (λ c. search needs)
-    (λ c κs. search needs)
     (λ c κs. search needs)
     (λ c κs. search needs)
     (λ c. search needs)
-    (λ c. rw (c .count3 .ensures .0, c .before .count2 .ensures .0, c .before .before .count .ensures .0)))
+    (λ c κs. search needs)
+    (λ c. search needs)
+    (λ c κs. search needs)
+    (λ c κs. search needs)
+    (λ c. search needs)
+    (λ c. search needs)
+    (λ c. rw (c .nth3 .ensures, c .before .regions-at .ensures, c .before .before .nth2 .ensures, c .before .before .before .nth .ensures, c .before .before .before .before .data-at .ensures)))

@@ -23,5 +23,5 @@ read-spec =
     (λ c κs. omega (arith, known (c .before)))
     (λ c κs. omega (arith, known (c .before .before)))
     (λ c κs. omega (arith, known (c .before .before .before)))
-    (λ c. rw (sym (c .before .before .before .before .before .before .check .ensures), c .before .before .before .before .if1 .taken, c .count4 .ensures .0, c .before .count3 .ensures .0, c .before .before .count2 .ensures .0, c .before .before .before .count .ensures .0))
+    (λ c. rw (sym (c .before .before .before .before .before .before .check .ensures), c .before .before .before .before .if1 .taken, c .nth4 .ensures, c .before .nth3 .ensures, c .before .before .nth2 .ensures, c .before .before .before .nth .ensures))
     (λ c. rw (sym (c .before .before .check .ensures), ne-eqb _ _ (c .if1 .left))))

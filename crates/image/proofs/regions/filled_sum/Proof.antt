@@ -8,10 +8,10 @@ use Rattle.image.proofs.regions.filled_sum.Statement.{statement}
 use Rattle.image.proofs.regions.filled_sum.Tie as tie
 
 abbrev Inv-loop : tie.InvT-loop
-Inv-loop regions r sum₀ i₀ sum i = (i ≤ r) × (sum ≡ filledSum regions i) × (sum ≤ 4294967295 * i)
+Inv-loop regions r count sum₀ i₀ sum i = (i ≤ count) × (sum ≡ filledSum regions i) × (sum ≤ 4294967295 * i)
 
 abbrev μ-loop : tie.MeasureT-loop
-μ-loop regions r sum₀ i₀ sum i = r - i
+μ-loop regions r count sum₀ i₀ sum i = count - i
 
 pub filled-sum-spec : {M : Type 1} → statement M
 unfolding filledSum
