@@ -11,7 +11,7 @@ use lib.Seq.{ext-getD, getD-take, length-take-le}
 use borrow.Author.Tests.{leb-true, eqb-true, le-leb, eq-eqb}
 use Rattle.image.specs.Format.{magic, largest, headerSize, mostM, mostN, mostR, mostD, regionsAt, dataAt, sizeOf, fieldM, fieldN, fieldR, fieldD, codeOffset, regionOffset, dataOffset, magicOk, limitsOk, layoutOk, codePart, regionPart}
 use Rattle.image.specs.Regions.{filledKind, undefinedKind, endOf, regionKeeps, regionOk, filledSum}
-use Rattle.image.specs.Refusals.{tooShort, wrongMagic, outOfLimits, wrongLayout, badInstruction, badRegion, wrongSum, refused, accepted, unless, orElse, isValid, instructionOk, codeRefusal, regionRefusal, contentRefusal, refusalWith, refusalOf, headerOf}
+use Rattle.image.specs.Refusals.{tooShort, wrongMagic, outOfLimits, wrongLayout, badInstruction, badRegion, wrongSum, accepted, unless, orElse, isValid, instructionOk, codeRefusal, regionRefusal, contentRefusal, refusalWith, refusalOf, headerOf}
 use Rattle.image.specs.Accepted.{Limits, Layout, Keeps, AcceptedWith, Accepted}
 use Rattle.image.specs.declared.Decoded.{Decoded}
 use Rattle.image.specs.declared.Decoded.the-variants.{Valid, Fault}
@@ -143,16 +143,16 @@ pub accepted-image : (s : List ℕ) → refusalOf s .number ≡ 0 → Accepted s
 unfolding refusalOf
 accepted-image s h = with-holds s (fieldM s) (fieldN s) (fieldR s) (fieldD s) h
 
--- and nothing else is refused
-pub accepted-only : (s : List ℕ) → Accepted s → refusalOf s ≡ accepted
+-- and every such image is accepted
+pub image-accepted : (s : List ℕ) → Accepted s → refusalOf s ≡ accepted
 unfolding refusalOf
-accepted-only s a = with-passes s (fieldM s) (fieldN s) (fieldR s) (fieldD s) a
+image-accepted s a = with-passes s (fieldM s) (fieldN s) (fieldR s) (fieldD s) a
 
 -- the answer to an accepted image
 pub accepted-header : (s : List ℕ) → Accepted s
     → headerOf s ≡ record { m = fieldM s; n = fieldN s; r = fieldR s; d = fieldD s; refusal = accepted }
 unfolding headerOf
-accepted-header s a = rw (accepted-only s a)
+accepted-header s a = rw (image-accepted s a)
 
 -- no accepted image is larger
 pub accepted-small : (s : List ℕ) → Accepted s → length s ≤ largest

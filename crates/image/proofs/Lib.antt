@@ -4,4 +4,5 @@ pub mod Faults
 pub mod RegionLaws
 pub mod AcceptedImage
 pub mod DecodedFits
+pub mod FaultIndex
 pub mod Example
