@@ -1,15 +1,15 @@
 -- How far the fields of a decoded instruction reach, and that every index of an accepted image has one.
-use Prim.Native.Nat.{ℕ, _+_, _*_, _/_, _^_, _<_}
+use Prim.Native.Nat.{ℕ, _+_, _*_, _^_, _<_}
 use mathlib.Core.Path.{_≡_, refl, sym, subst}
-use mathlib.Core.Bool.{Bool, true, false, cond, _&&_}
+use mathlib.Core.Bool.{Bool, true, false, _&&_}
 use mathlib.Core.List.{List}
 use lib.Dec.{ltb, leb, eqb}
-use lib.ListN.{length, getD}
+use lib.ListN.{getD}
 use borrow.Author.Tests.{ltb-true, leb-true}
 use Rattle.rules.proofs.ByteLaws.{joined-lt}
 use Rattle.image.specs.Words.{nthWord, Bytes}
 use Rattle.image.specs.Format.{headerSize, instructionSize, ports, fieldM, fieldN, codePart}
-use Rattle.image.specs.Rows.{literalMark, isRegister, operandOk, rangeStart, rangeLength, rangeOk, fieldsOk, operandOf, built, decoded, decodeAt}
+use Rattle.image.specs.Rows.{rowOf, literalMark, isRegister, operandOk, rangeStart, rangeLength, rangeOk, fieldsOk, operandOf, built, fieldsAt, decodeAt}
 use Rattle.image.specs.Accepted.{Accepted, OperandFits, Fits}
 use Rattle.image.specs.declared.Instruction.{Instruction}
 use Rattle.image.specs.declared.rows.Row.{Row}
@@ -17,6 +17,7 @@ use Rattle.image.specs.declared.rows.Row.the-variants.{Stops, Moves, Com
 use Rattle.image.specs.declared.Decoded.{Decoded}
 use Rattle.image.specs.declared.Decoded.the-variants.{Valid, Fault}
 use Rattle.image.proofs.Parts.{bytes-part}
+use Rattle.image.proofs.Decoding.{of-answer}
 use Rattle.image.proofs.Tests.{apart, both, all-four}
 
 pub word-lt : (s : List ℕ) (k : ℕ) → Bytes s → nthWord s k < 2 ^ 32
@@ -59,28 +60,21 @@ built-fits (Marks addressable) d a b imm n m l h =
     (leb-true _ _ (q .0), leb-true _ _ (q .1))
 built-fits Missing d a b imm n m l h = apart (sym h)
 
-abbrev AnswerFits : (n m : ℕ) → Decoded → Type 0
-AnswerFits n m (Valid v) = Fits n m v
-AnswerFits n m (Fault i) = Unit
+abbrev AnswerFits : (i n m : ℕ) → Decoded → Type 0
+AnswerFits i n m (Valid v) = Fits n m v
+AnswerFits i n m (Fault k) = k ≡ i
 
-fields-fit : (row : Row) (d a b imm i n m : ℕ) → imm < 2 ^ 32 → AnswerFits n m (decoded row d a b imm i n m)
-unfolding decoded
-fields-fit row d a b imm i n m l = go (fieldsOk row d a b imm n m) refl
-  where
-    go : (t : Bool) → fieldsOk row d a b imm n m ≡ t → AnswerFits n m (cond t (Valid (built row d a b imm)) (Fault i))
-    go true e = built-fits row d a b imm n m l e
-    go false e = tt
-
-answer-fits : (code : List ℕ) (i n m : ℕ) → Bytes code → AnswerFits n m (decodeAt code i n m)
-unfolding decodeAt
-answer-fits code i n m b = go (ltb i (length code / instructionSize)) refl
-  where
-    go : (t : Bool) → ltb i (length code / instructionSize) ≡ t → AnswerFits n m (decodeAt code i n m)
-    go true e = rw e (fields-fit _ _ _ _ _ i n m (word-lt code (2 * i + 1) b))
-    go false e = rw e tt
+answer-fits : (code : List ℕ) (i n m : ℕ) → Bytes code → AnswerFits i n m (decodeAt code i n m)
+answer-fits code i n m b =
+    let f = fieldsAt code i in
+    of-answer (AnswerFits i n m) n m code i (built-fits (rowOf (f .op)) (f .d) (f .a) (f .b) (f .imm) n m (word-lt code (2 * i + 1) b)) refl
 
 pub decoded-fits : (code : List ℕ) (i n m : ℕ) (v : Instruction) → Bytes code → decodeAt code i n m ≡ Valid v → Fits n m v
-decoded-fits code i n m v b h = subst (AnswerFits n m) h (answer-fits code i n m b)
+decoded-fits code i n m v b h = subst (AnswerFits i n m) h (answer-fits code i n m b)
+
+-- the place of a fault is the index
+pub fault-place : (code : List ℕ) (i n m k : ℕ) → Bytes code → decodeAt code i n m ≡ Fault k → k ≡ i
+fault-place code i n m k b h = subst (AnswerFits i n m) h (answer-fits code i n m b)
 
 -- each index below N of an accepted image decodes, to an instruction whose fields fit
 pub decodes : (s : List ℕ) → Bytes s → Accepted s → (i : ℕ) → i < fieldN s

@@ -3,6 +3,8 @@ pub mod Tests
 pub mod Faults
 pub mod RegionLaws
 pub mod AcceptedImage
+pub mod Decoding
 pub mod DecodedFits
+pub mod EncodingLaws
 pub mod FaultIndex
 pub mod Example

@@ -98,12 +98,22 @@ built Missing d a b imm = Stop
 unfoldable pub decoded : Row → (d a b imm i n m : ℕ) → Decoded
 decoded row d a b imm i n m = cond (fieldsOk row d a b imm n m) (Valid (built row d a b imm)) (Fault i)
 
--- instruction number i of the code: four bytes op, d, a, b and a word imm; code that ends before is at fault
-unfoldable pub decodeAt : List ℕ → ℕ → ℕ → ℕ → Decoded
-decodeAt code i n m =
-    cond (ltb i (length code / instructionSize))
-    (decoded (rowOf (byte 0)) (byte 1) (byte 2) (byte 3) (nthWord code (2 * i + 1)) i n m)
-    (Fault i)
+-- the fields of instruction number i: four bytes op, d, a, b and a word imm
+pub record Fields : Type 0 where
+  pub op : ℕ
+  pub d : ℕ
+  pub a : ℕ
+  pub b : ℕ
+  pub imm : ℕ
+
+abbrev pub fieldsAt : List ℕ → ℕ → Fields
+fieldsAt code i = record { op = byte 0; d = byte 1; a = byte 2; b = byte 3; imm = nthWord code (2 * i + 1) }
   where
     byte : ℕ → ℕ
     byte k = getD code (instructionSize * i + k) 0
+
+-- instruction number i of the code; code that ends before its eight bytes is at fault
+unfoldable pub decodeAt : List ℕ → ℕ → ℕ → ℕ → Decoded
+decodeAt code i n m =
+    let f = fieldsAt code i in
+    cond (ltb i (length code / instructionSize)) (decoded (rowOf (f .op)) (f .d) (f .a) (f .b) (f .imm) i n m) (Fault i)
