@@ -1,5 +1,5 @@
 -- The reader accepts exactly the images that `Accepted` describes.
-use Prim.Native.Nat.{ℕ, zero, suc, _-_, _≤_, _<_}
+use Prim.Native.Nat.{ℕ, zero, suc, _-_, _*_, _≤_, _<_}
 use mathlib.Core.Path.{_≡_, refl, sym, _∙_, ap}
 use mathlib.Core.Logic.{_⊎_, inl, inr, ⊎-elim}
 use mathlib.Core.Bool.{Bool, true, _||_}
@@ -9,15 +9,16 @@ use lib.Dec.{leb, eqb, lit<}
 use lib.ListN.{length, getD, take}
 use lib.Seq.{ext-getD, getD-take, length-take-le}
 use borrow.Author.Tests.{leb-true, eqb-true, le-leb, eq-eqb}
-use Rattle.image.specs.Format.{magic, largest, headerSize, mostM, mostN, mostR, mostD, regionsAt, dataAt, sizeOf, fieldM, fieldN, fieldR, fieldD, codeOffset, regionOffset, dataOffset, magicOk, limitsOk, layoutOk, codePart, regionPart}
+use Rattle.image.specs.Format.{magic, largest, headerSize, instructionSize, regionSize, mostM, mostN, mostR, mostD, regionsAt, dataAt, sizeOf, fieldM, fieldN, fieldR, fieldD, codeOffset, regionOffset, dataOffset, magicOk, limitsOk, layoutOk, codePart, regionPart, dataPart}
 use Rattle.image.specs.Regions.{filledKind, undefinedKind, endOf, regionKeeps, regionOk, filledSum}
-use Rattle.image.specs.Refusals.{tooShort, wrongMagic, outOfLimits, wrongLayout, badInstruction, badRegion, wrongSum, accepted, unless, orElse, isValid, instructionOk, codeRefusal, regionRefusal, contentRefusal, refusalWith, refusalOf, headerOf}
+use Rattle.image.specs.Refusals.{tooShort, wrongMagic, outOfLimits, wrongLayout, badInstruction, badRegion, wrongSum, accepted, unless, orElse, isValid, instructionOk, codeRefusal, regionRefusal, contentRefusal, refusalWith, refusalOf, headerOf, codeOf}
 use Rattle.image.specs.Accepted.{Limits, Layout, Keeps, AcceptedWith, Accepted}
 use Rattle.image.specs.declared.Decoded.{Decoded}
 use Rattle.image.specs.declared.Decoded.the-variants.{Valid, Fault}
 use Rattle.image.specs.declared.Instruction.{Instruction}
 use Rattle.image.specs.declared.Region.{Region}
 use Rattle.image.specs.declared.Refusal.{Refusal}
+use Rattle.image.proofs.Parts.{length-part}
 use Rattle.image.proofs.Tests.{apart, both, all-four, either}
 use Rattle.image.proofs.Faults.{passed, both-passed, no-fault, all-pass}
 
@@ -154,6 +155,20 @@ pub accepted-header : (s : List ℕ) → Accepted s
 unfolding headerOf
 accepted-header s a = rw (image-accepted s a)
 
--- no accepted image is larger
+pub accepted-code : (s : List ℕ) → Accepted s → codeOf s ≡ codePart s (fieldN s)
+unfolding codeOf
+accepted-code s a = rw (accepted-header s a)
+
+-- ---- its size, and that of its parts
 pub accepted-small : (s : List ℕ) → Accepted s → length s ≤ largest
 accepted-small s a = omega (arith, a .layout .size, a .limits .code, a .limits .regions, a .limits .held)
+
+module _ (s : List ℕ) (a : Accepted s) where
+  pub code-length : length (codePart s (fieldN s)) ≡ instructionSize * fieldN s
+  code-length = length-part s headerSize (instructionSize * fieldN s) (omega (arith, a .layout .size))
+
+  pub region-length : length (regionPart s (fieldN s) (fieldR s)) ≡ regionSize * fieldR s
+  region-length = length-part s (regionsAt (fieldN s)) (regionSize * fieldR s) (omega (arith, a .layout .size))
+
+  pub data-length : length (dataPart s (fieldN s) (fieldR s) (fieldD s)) ≡ fieldD s
+  data-length = length-part s (dataAt (fieldN s) (fieldR s)) (fieldD s) (omega (arith, a .layout .size))

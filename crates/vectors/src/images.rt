@@ -3,6 +3,7 @@
 use super::rows;
 use super::show::number;
 use super::show::text;
+use image::Region;
 
 // Document 01's example, 76 bytes, and one byte more.
 const SAMPLE: [u8; 77] =
@@ -145,6 +146,24 @@ pub fn code() {
     rows::decoded(image::decode(code, 1, 4, 16));
     rows::decoded(image::decode(code, 2, 4, 16));
     rows::decoded(image::decode(code, 3, 4, 16));
+}
+
+fn region(name: &[u8], r: Region) {
+    three(name, r.start, r.size, r.kind);
+    text(b"\n");
+}
+
+// The parts of the example and its region; the next region is past the end.
+pub fn parts() {
+    let image = &SAMPLE[..76];
+    let regions = image::format::region_part(image, 4, 1);
+    number(b"parts of ", image::format::code_part(image, 4).len());
+    number(b", ", regions.len());
+    number(b" and ", image::format::data_part(image, 4, 1, 0).len());
+    number(b" bytes, the largest image ", image::format::LARGEST);
+    text(b"\n");
+    region(b"region 0: ", image::region_at(regions, 0));
+    region(b"region 1: ", image::region_at(regions, 1));
 }
 
 pub fn sample() {

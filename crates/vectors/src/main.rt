@@ -11,6 +11,7 @@ fn main() {
     rows::table();
     rows::ends();
     images::code();
+    images::parts();
     images::sample();
     images::changes();
     images::pairs();

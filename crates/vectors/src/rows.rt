@@ -1,5 +1,4 @@
-// Instructions, one line each: op, d, a, b and imm, then what they decode to in an image of 4
-// instructions and 16 bytes of memory.
+// Instructions, one line each: op, d, a, b and imm, then what they decode to.
 use super::show::number;
 use super::show::text;
 use super::show::word;
@@ -110,12 +109,14 @@ pub fn decoded(x: Decoded) {
     text(b"\n");
 }
 
+const CASES: usize = 64;
+
 // op, d, a, b and imm.
 struct Fields(u8, u8, u8, u8, u32);
 
 // Every row at the ends of its fields; then one step past an end, an unused field that is not 0, an
 // op with no row.
-const TABLE: [Fields; 60] = [
+const TABLE: [Fields; CASES] = [
     Fields(0, 0, 0, 0, 0),
     Fields(1, 15, 0, 15, 0),
     Fields(1, 0, 0, 255, 0xdead_beef),
@@ -131,6 +132,8 @@ const TABLE: [Fields; 60] = [
     Fields(11, 1, 2, 3, 0),
     Fields(12, 1, 2, 3, 0),
     Fields(2, 15, 15, 15, 0),
+    Fields(2, 1, 2, 255, 9),
+    Fields(11, 0, 15, 255, 0x8000_0000),
     Fields(12, 0, 0, 255, 0),
     Fields(13, 15, 0, 0, 0xffff_ffff),
     Fields(14, 0, 15, 0, 0),
@@ -175,25 +178,30 @@ const TABLE: [Fields; 60] = [
     Fields(20, 0, 1, 0, 0x0001_0000),
     Fields(20, 0, 0, 1, 0x0001_0000),
     Fields(21, 0, 0, 0, 0),
+    Fields(22, 0, 0, 0, 0),
+    Fields(128, 0, 0, 0, 0),
     Fields(255, 0, 0, 0, 0),
 ];
 
-const CASES: usize = 60;
-
+// Index 1 of an image of 4 instructions and 16 bytes of memory.
 fn row(f: Fields) {
     let imm = f.4;
-    let mut code = [f.0, f.1, f.2, f.3, 0, 0, 0, 0];
-    code[4] = rules::bytes::byte(imm, 0);
-    code[5] = rules::bytes::byte(imm, 1);
-    code[6] = rules::bytes::byte(imm, 2);
-    code[7] = rules::bytes::byte(imm, 3);
+    let mut code = [0u8; 16];
+    code[8] = f.0;
+    code[9] = f.1;
+    code[10] = f.2;
+    code[11] = f.3;
+    code[12] = rules::bytes::byte(imm, 0);
+    code[13] = rules::bytes::byte(imm, 1);
+    code[14] = rules::bytes::byte(imm, 2);
+    code[15] = rules::bytes::byte(imm, 3);
     number(b"", f.0 as usize);
     number(b" ", f.1 as usize);
     number(b" ", f.2 as usize);
     number(b" ", f.3 as usize);
     word(b" ", imm);
     text(b": ");
-    decoded(image::decode(&code, 0, N, M));
+    decoded(image::decode(&code, 1, N, M));
 }
 
 pub fn table() {
