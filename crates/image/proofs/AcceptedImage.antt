@@ -11,13 +11,12 @@ use lib.Seq.{ext-getD, getD-take, length-take-le}
 use borrow.Author.Tests.{leb-true, eqb-true, le-leb, eq-eqb}
 use Rattle.image.specs.Format.{magic, largest, headerSize, instructionSize, regionSize, mostM, mostN, mostR, mostD, regionsAt, dataAt, sizeOf, fieldM, fieldN, fieldR, fieldD, codeOffset, regionOffset, dataOffset, magicOk, limitsOk, layoutOk, codePart, regionPart, dataPart}
 use Rattle.image.specs.Regions.{filledKind, undefinedKind, endOf, regionKeeps, regionOk, filledSum}
-use Rattle.image.specs.Refusals.{tooShort, wrongMagic, outOfLimits, wrongLayout, badInstruction, badRegion, wrongSum, accepted, unless, orElse, isValid, instructionOk, codeRefusal, regionRefusal, contentRefusal, refusalWith, refusalOf, headerOf, codeOf}
+use Rattle.image.specs.Refusals.{tooShort, wrongMagic, outOfLimits, wrongLayout, badInstruction, badRegion, wrongSum, accepted, orElse, isValid, instructionOk, codeRefusal, regionRefusal, sumRefusal, contentRefusal, refusalWith, refusalOf, headerOf, codeOf}
 use Rattle.image.specs.Accepted.{Limits, Layout, Keeps, AcceptedWith, Accepted}
 use Rattle.image.specs.declared.Decoded.{Decoded}
 use Rattle.image.specs.declared.Decoded.the-variants.{Valid, Fault}
 use Rattle.image.specs.declared.Instruction.{Instruction}
 use Rattle.image.specs.declared.Region.{Region}
-use Rattle.image.specs.declared.Refusal.{Refusal}
 use Rattle.image.proofs.Parts.{length-part}
 use Rattle.image.proofs.Tests.{apart, both, all-four, either}
 use Rattle.image.proofs.Faults.{passed, both-passed, no-fault, all-pass}
@@ -102,25 +101,16 @@ valid-holds (Fault k) h = apart (sym h)
 
 -- ---- the theorems
 module _ (s : List ℕ) (m n r d : ℕ) where
-  abbrev code : List ℕ
-  code = codePart s n
-
-  abbrev regions : List ℕ
-  regions = regionPart s n r
-
-  abbrev last : Refusal
-  last = unless (eqb (filledSum regions r) d) wrongSum accepted
-
   with-holds : refusalWith s m n r d .number ≡ 0 → AcceptedWith s m n r d
   unfolding codeRefusal regionRefusal instructionOk regionOk
   with-holds h =
       let p1 = passed (leb headerSize (length s)) tooShort 0 _ (lit< tt) h in
       let p2 = passed (magicOk s) wrongMagic 0 _ (lit< tt) (p1 .1) in
       let p3 = passed (limitsOk m n r d) outOfLimits 0 _ (lit< tt) (p2 .1) in
-      let p4 = passed (layoutOk s n r d) wrongLayout 0 (contentRefusal code regions m n r d) (lit< tt) (p3 .1) in
-      let p5 = both-passed (codeRefusal code n m) (orElse (regionRefusal regions r m) last) (p4 .1) in
-      let p6 = both-passed (regionRefusal regions r m) last (p5 .1) in
-      let p7 = passed (eqb (filledSum regions r) d) wrongSum 0 accepted (lit< tt) (p6 .1) in
+      let p4 = passed (layoutOk s n r d) wrongLayout 0 (contentRefusal (codePart s n) (regionPart s n r) m n r d) (lit< tt) (p3 .1) in
+      let p5 = both-passed (codeRefusal (codePart s n) n m) (orElse (regionRefusal (regionPart s n r) r m) (sumRefusal (regionPart s n r) r d)) (p4 .1) in
+      let p6 = both-passed (regionRefusal (regionPart s n r) r m) (sumRefusal (regionPart s n r) r d) (p5 .1) in
+      let p7 = passed (eqb (filledSum (regionPart s n r) r) d) wrongSum 0 accepted (lit< tt) (p6 .1) in
       let long = leb-true headerSize (length s) (p1 .0) in
       record {
         long = long;
@@ -135,8 +125,8 @@ module _ (s : List ℕ) (m n r d : ℕ) where
   with-passes : AcceptedWith s m n r d → refusalWith s m n r d ≡ accepted
   unfolding codeRefusal regionRefusal instructionOk regionOk
   with-passes a =
-      let codes : codeRefusal code n m ≡ accepted = all-pass badInstruction _ 0 n (λ k lo hi. ap isValid (a .code k (omega arith) .1)) in
-      let places : regionRefusal regions r m ≡ accepted = all-pass badRegion _ 0 r (λ k lo hi. keeps-pass (a .regions k (omega arith))) in
+      let codes : codeRefusal (codePart s n) n m ≡ accepted = all-pass badInstruction _ 0 n (λ k lo hi. ap isValid (a .code k (omega arith) .1)) in
+      let places : regionRefusal (regionPart s n r) r m ≡ accepted = all-pass badRegion _ 0 r (λ k lo hi. keeps-pass (a .regions k (omega arith))) in
       simp (le-leb _ _ (a .long), magic-passes s (a .starts), limits-pass (a .limits), layout-passes (a .layout), codes, places, eq-eqb _ _ (a .sum))
 
 -- what an accepted image is

@@ -29,7 +29,7 @@ operand-fits b imm l h = go (eqb b literalMark) refl
   where
     go : (t : Bool) → eqb b literalMark ≡ t → OperandFits (operandOf b imm)
     go true e = rw e l
-    go false e = rw e (ltb-true _ _ (both (isRegister b) (eqb imm 0) (rw e at h) .0))
+    go false e = rw e (ltb-true _ _ (both (isRegister b) _ (rw e at h) .0))
 
 -- the instruction of fields that keep their row
 built-fits : (row : Row) (d a b imm n m : ℕ) → imm < 2 ^ 32 → fieldsOk row d a b imm n m ≡ true → Fits n m (built row d a b imm)

@@ -1,10 +1,9 @@
 -- An instruction is decoded exactly where its fields stand and fit.
-use Prim.Native.Nat.{ℕ, zero, suc, _+_, _*_, _/_, _^_, _<_, _≤_}
+use Prim.Native.Nat.{ℕ, _+_, _*_, _/_, _^_, _<_, _≤_}
 use mathlib.Core.Path.{_≡_, refl, sym, _∙_, ap, subst}
 use mathlib.Core.Logic.{⊎-elim}
 use mathlib.Core.Bool.{Bool, true, false, _&&_}
 use mathlib.Core.List.{List}
-use native.Mathlib.Nat.{eq-or-lt-of-le}
 use native.Mathlib.Omega.{arith}
 use lib.Dec.{ltb, eqb}
 use lib.ListN.{length, List·getD-eq-default}
@@ -13,10 +12,11 @@ use Rattle.rules.specs.declared.Operation.{Operation}
 use Rattle.rules.specs.declared.Operation.the-variants.{Add, Sub, Mul, And, Or, Xor, Shl, Shr, Sar, Eq, Ltu}
 use Rattle.image.specs.Format.{instructionSize, registers, ports}
 use Rattle.image.specs.Rows.{rows, rowOf, literalMark, isRegister, operandOk, rangeStart, rangeLength, rangeOk, fieldsOk, operandOf, built, decoded, Fields, fieldsAt, decodeAt}
-use Rattle.image.specs.Encoding.{opOf, markOf, immOf, encoded}
+use Rattle.image.specs.Encoding.{fields, opOf, loadOp, storeOp, markOp, markOf, immOf, encoded}
 use Rattle.image.specs.Accepted.{OperandFits, Fits}
 use Rattle.image.specs.declared.Operand.{Operand}
 use Rattle.image.specs.declared.Operand.the-variants.{Register, Literal}
+use Rattle.image.specs.declared.Width.{Width}
 use Rattle.image.specs.declared.Width.the-variants.{Byte, Word}
 use Rattle.image.specs.declared.Instruction.{Instruction}
 use Rattle.image.specs.declared.Instruction.the-variants.{Stop, Move, Compute, Load, Store, Jump, Emit, Mark}
@@ -24,7 +24,7 @@ use Rattle.image.specs.declared.rows.Row.{Row}
 use Rattle.image.specs.declared.rows.Row.the-variants.{Stops, Moves, Computes, Loads, Stores, Jumps, Emits, Marks, Missing}
 use Rattle.image.specs.declared.Decoded.{Decoded}
 use Rattle.image.specs.declared.Decoded.the-variants.{Valid, Fault}
-use Rattle.image.proofs.Tests.{apart, both, all-four}
+use Rattle.image.proofs.Tests.{apart, both, all-four, below}
 use Rattle.rules.proofs.Bits.{lt-or-ge}
 use Rattle.image.proofs.Decoding.{of-answer}
 
@@ -33,18 +33,12 @@ abbrev numberOf : Row → ℕ
 numberOf Stops = 0
 numberOf Moves = 1
 numberOf (Computes op) = opOf op
-numberOf (Loads Byte) = 13
-numberOf (Loads Word) = 14
-numberOf (Stores Byte) = 15
-numberOf (Stores Word) = 16
+numberOf (Loads width) = loadOp width
+numberOf (Stores width) = storeOp width
 numberOf Jumps = 17
 numberOf Emits = 18
-numberOf (Marks true) = 19
-numberOf (Marks false) = 20
-numberOf Missing = 21
-
-abbrev fields : (op d a b imm : ℕ) → Fields
-fields op d a b imm = record { op = op; d = d; a = a; b = b; imm = imm }
+numberOf (Marks addressable) = markOp addressable
+numberOf Missing = length rows
 
 operand-back : (b imm : ℕ) → operandOk b imm ≡ true → (markOf (operandOf b imm) ≡ b) × (immOf (operandOf b imm) ≡ imm)
 operand-back b imm h = go (eqb b literalMark) refl
@@ -68,40 +62,25 @@ built-back Moves d a b imm n m h =
 built-back (Computes op) d a b imm n m h =
     let o = operand-back b imm (both (isRegister d && isRegister a) (operandOk b imm) h .1) in
     rw (o .0, o .1)
-built-back (Loads Byte) d a b imm n m h = rw (eqb-true b 0 (both (isRegister d && isRegister a) (eqb b 0) h .1))
-built-back (Loads Word) d a b imm n m h = rw (eqb-true b 0 (both (isRegister d && isRegister a) (eqb b 0) h .1))
-built-back (Stores Byte) d a b imm n m h = rw (eqb-true b 0 (both (isRegister d && isRegister a) (eqb b 0) h .1))
-built-back (Stores Word) d a b imm n m h = rw (eqb-true b 0 (both (isRegister d && isRegister a) (eqb b 0) h .1))
+built-back (Loads width) d a b imm n m h = rw (eqb-true b 0 (both (isRegister d && isRegister a) (eqb b 0) h .1))
+built-back (Stores width) d a b imm n m h = rw (eqb-true b 0 (both (isRegister d && isRegister a) (eqb b 0) h .1))
 built-back Jumps d a b imm n m h =
     let e = all-four (eqb d 0) (isRegister a) (eqb b 0) (ltb imm n) h in
     rw (eqb-true d 0 (e .0), eqb-true b 0 (e .2))
 built-back Emits d a b imm n m h =
     let e = all-four (eqb d 0) (isRegister a) (eqb b 0) (ltb imm ports) h in
     rw (eqb-true d 0 (e .0), eqb-true b 0 (e .2))
-built-back (Marks true) d a b imm n m h =
-    let e = all-four (eqb d 0) (eqb a 0) (eqb b 0) (rangeOk imm m) h in
-    rw (eqb-true d 0 (e .0), eqb-true a 0 (e .1), eqb-true b 0 (e .2), halves imm)
-built-back (Marks false) d a b imm n m h =
+built-back (Marks addressable) d a b imm n m h =
     let e = all-four (eqb d 0) (eqb a 0) (eqb b 0) (rangeOk imm m) h in
     rw (eqb-true d 0 (e .0), eqb-true a 0 (e .1), eqb-true b 0 (e .2), halves imm)
 built-back Missing d a b imm n m h = apart (sym h)
 
 -- ---- the place of a row in the table is its number
-abbrev all-below : (ℕ → Bool) → ℕ → Bool
-all-below p zero = true
-all-below p (suc n) = all-below p n && p n
-
-below : (p : ℕ → Bool) (n : ℕ) → all-below p n ≡ true → (k : ℕ) → k < n → p k ≡ true
-below p zero h k l = absurd (omega arith)
-below p (suc n) h k l =
-    let e = both (all-below p n) (p n) h in
-    ⊎-elim (λ (q : k ≡ n). ap p q ∙ e .1) (λ (q : k < n). below p n (e .0) k q) (eq-or-lt-of-le (let q : k ≤ n = omega arith in q))
-
 numbered : ℕ → Bool
 numbered op = eqb (numberOf (rowOf op)) op
 
 row-number : (op : ℕ) → op < length rows → numberOf (rowOf op) ≡ op
-unfolding numbered rowOf opOf
+unfolding numbered rowOf opOf loadOp storeOp markOp
 row-number op l = eqb-true _ _ (below numbered (length rows) refl op l)
 
 -- an op with a row
@@ -137,6 +116,21 @@ row-of-op Sar = refl
 row-of-op Eq = refl
 row-of-op Ltu = refl
 
+row-of-load : (width : Width) → rowOf (loadOp width) ≡ Loads width
+unfolding rowOf loadOp
+row-of-load Byte = refl
+row-of-load Word = refl
+
+row-of-store : (width : Width) → rowOf (storeOp width) ≡ Stores width
+unfolding rowOf storeOp
+row-of-store Byte = refl
+row-of-store Word = refl
+
+row-of-mark : (addressable : Bool) → rowOf (markOp addressable) ≡ Marks addressable
+unfolding rowOf markOp
+row-of-mark true = refl
+row-of-mark false = refl
+
 operand-there : (b : Operand) → OperandFits b → (operandOk (markOf b) (immOf b) ≡ true) × (operandOf (markOf b) (immOf b) ≡ b)
 operand-there (Register r) h = rw (ne-eqb r literalMark (λ e. omega arith), lt-ltb r registers h) (refl, refl)
 operand-there (Literal x) h = (refl, refl)
@@ -157,18 +151,13 @@ there (Move d b) i n m l h =
 there (Compute op d a b) i n m l h =
     let o = operand-there b (h .2) in
     rw (row-of-op op, lt-ltb d registers (h .0), lt-ltb a registers (h .1), o .0, o .1)
-there (Load Byte d a imm) i n m l h = rw (lt-ltb d registers (h .0), lt-ltb a registers (h .1))
-there (Load Word d a imm) i n m l h = rw (lt-ltb d registers (h .0), lt-ltb a registers (h .1))
-there (Store Byte d a imm) i n m l h = rw (lt-ltb d registers (h .0), lt-ltb a registers (h .1))
-there (Store Word d a imm) i n m l h = rw (lt-ltb d registers (h .0), lt-ltb a registers (h .1))
+there (Load width d a imm) i n m l h = rw (row-of-load width, lt-ltb d registers (h .0), lt-ltb a registers (h .1))
+there (Store width d a imm) i n m l h = rw (row-of-store width, lt-ltb d registers (h .0), lt-ltb a registers (h .1))
 there (Jump a target) i n m l h = rw (lt-ltb a registers (h .0), lt-ltb target n (h .1))
 there (Emit a port) i n m l h = rw (lt-ltb a registers (h .0), lt-ltb port ports (h .1))
-there (Mark true start size) i n m l h =
+there (Mark addressable start size) i n m l h =
     let r = range-there start size m l (h .0) (h .1) in
-    rw (r .0, r .1, le-leb 1 size (h .0), le-leb (start + size) m (h .1))
-there (Mark false start size) i n m l h =
-    let r = range-there start size m l (h .0) (h .1) in
-    rw (r .0, r .1, le-leb 1 size (h .0), le-leb (start + size) m (h .1))
+    rw (row-of-mark addressable, r .0, r .1, le-leb 1 size (h .0), le-leb (start + size) m (h .1))
 
 pub encoding-decodes : (code : List ℕ) (i n m : ℕ) (v : Instruction) → m < 2 ^ 16 → Fits n m v
     → i < length code / instructionSize → fieldsAt code i ≡ encoded v → decodeAt code i n m ≡ Valid v

@@ -1,8 +1,9 @@
 -- Bool tests and what they say.
-use Prim.Native.Nat.{ℕ}
-use mathlib.Core.Path.{_≡_, refl}
-use mathlib.Core.Logic.{_⊎_, inl, inr}
+use Prim.Native.Nat.{ℕ, zero, suc, _≤_, _<_}
+use mathlib.Core.Path.{_≡_, refl, ap, _∙_}
+use mathlib.Core.Logic.{_⊎_, inl, inr, ⊎-elim}
 use mathlib.Core.Bool.{Bool, true, false, _&&_, _||_}
+use native.Mathlib.Nat.{eq-or-lt-of-le}
 use native.Mathlib.Omega.{arith}
 
 -- true is not false
@@ -23,3 +24,14 @@ all-four a b c d h =
 pub either : (a b : Bool) → a || b ≡ true → (a ≡ true) ⊎ (b ≡ true)
 either true b h = inl refl
 either false b h = inr h
+
+-- ---- a test of every number below n
+abbrev pub all-below : (ℕ → Bool) → ℕ → Bool
+all-below p zero = true
+all-below p (suc n) = all-below p n && p n
+
+pub below : (p : ℕ → Bool) (n : ℕ) → all-below p n ≡ true → (k : ℕ) → k < n → p k ≡ true
+below p zero h k l = absurd (omega arith)
+below p (suc n) h k l =
+    let e = both (all-below p n) (p n) h in
+    ⊎-elim (λ (q : k ≡ n). ap p q ∙ e .1) (λ (q : k < n). below p n (e .0) k q) (eq-or-lt-of-le (let q : k ≤ n = omega arith in q))

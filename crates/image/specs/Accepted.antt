@@ -1,4 +1,4 @@
--- What an accepted image is, and how far the fields of its instructions reach: all that the crates above need to know of an image.
+-- What an accepted image is, and how far the fields of its instructions reach: what the crates above use of an image.
 -- `accepted-image` and `image-accepted` in proofs/AcceptedImage.antt say that the reader accepts these images and no others.
 use Prim.Native.Nat.{ℕ, _+_, _^_, _≤_, _<_}
 use mathlib.Core.Path.{_≡_}

@@ -68,13 +68,12 @@ codeRefusal code n m = firstFault badInstruction (instructionOk code n m) 0 n
 unfoldable pub regionRefusal : List ℕ → ℕ → ℕ → Refusal
 regionRefusal regions r m = firstFault badRegion (regionOk regions m) 0 r
 
+abbrev pub sumRefusal : List ℕ → ℕ → ℕ → Refusal
+sumRefusal regions r d = unless (eqb (filledSum regions r) d) wrongSum accepted
+
 -- of an image that has its parts, with these M, N, R and D
 abbrev pub contentRefusal : (code regions : List ℕ) (m n r d : ℕ) → Refusal
-contentRefusal code regions m n r d =
-    orElse (codeRefusal code n m)
-    (orElse (regionRefusal regions r m)
-    (unless (eqb (filledSum regions r) d) wrongSum
-    accepted))
+contentRefusal code regions m n r d = orElse (codeRefusal code n m) (orElse (regionRefusal regions r m) (sumRefusal regions r d))
 
 -- the first that applies, in number order
 abbrev pub refusalWith : (s : List ℕ) (m n r d : ℕ) → Refusal
