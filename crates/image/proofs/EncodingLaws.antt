@@ -12,7 +12,7 @@ use Rattle.rules.specs.declared.Operation.{Operation}
 use Rattle.rules.specs.declared.Operation.the-variants.{Add, Sub, Mul, And, Or, Xor, Shl, Shr, Sar, Eq, Ltu}
 use Rattle.image.specs.Format.{instructionSize, registers, ports}
 use Rattle.image.specs.Rows.{rows, rowOf, literalMark, isRegister, operandOk, rangeStart, rangeLength, rangeOk, fieldsOk, operandOf, built, decoded, Fields, fieldsAt, decodeAt}
-use Rattle.image.specs.Encoding.{fields, opOf, loadOp, storeOp, markOp, markOf, immOf, encoded}
+use Rattle.image.specs.Encoding.{fields, opOf, loadOp, storeOp, markOp, operandB, operandImm, encoded}
 use Rattle.image.specs.Accepted.{OperandFits, Fits}
 use Rattle.image.specs.declared.Operand.{Operand}
 use Rattle.image.specs.declared.Operand.the-variants.{Register, Literal}
@@ -40,10 +40,10 @@ numberOf Emits = 18
 numberOf (Marks addressable) = markOp addressable
 numberOf Missing = length rows
 
-operand-back : (b imm : ℕ) → operandOk b imm ≡ true → (markOf (operandOf b imm) ≡ b) × (immOf (operandOf b imm) ≡ imm)
+operand-back : (b imm : ℕ) → operandOk b imm ≡ true → (operandB (operandOf b imm) ≡ b) × (operandImm (operandOf b imm) ≡ imm)
 operand-back b imm h = go (eqb b literalMark) refl
   where
-    go : (t : Bool) → eqb b literalMark ≡ t → (markOf (operandOf b imm) ≡ b) × (immOf (operandOf b imm) ≡ imm)
+    go : (t : Bool) → eqb b literalMark ≡ t → (operandB (operandOf b imm) ≡ b) × (operandImm (operandOf b imm) ≡ imm)
     go true e = rw e (sym (eqb-true b literalMark e), refl)
     go false e = rw e (refl, sym (eqb-true imm 0 (both (isRegister b) (eqb imm 0) (rw e at h) .1)))
 
@@ -131,7 +131,7 @@ unfolding rowOf markOp
 row-of-mark true = refl
 row-of-mark false = refl
 
-operand-there : (b : Operand) → OperandFits b → (operandOk (markOf b) (immOf b) ≡ true) × (operandOf (markOf b) (immOf b) ≡ b)
+operand-there : (b : Operand) → OperandFits b → (operandOk (operandB b) (operandImm b) ≡ true) × (operandOf (operandB b) (operandImm b) ≡ b)
 operand-there (Register r) h = rw (ne-eqb r literalMark (λ e. omega arith), lt-ltb r registers h) (refl, refl)
 operand-there (Literal x) h = (refl, refl)
 

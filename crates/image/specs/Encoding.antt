@@ -42,18 +42,18 @@ markOp true = 19
 markOp false = 20
 
 -- the fields b and imm of the second operand
-abbrev pub markOf : Operand → ℕ
-markOf (Register r) = r
-markOf (Literal x) = literalMark
+abbrev pub operandB : Operand → ℕ
+operandB (Register r) = r
+operandB (Literal x) = literalMark
 
-abbrev pub immOf : Operand → ℕ
-immOf (Register r) = 0
-immOf (Literal x) = x .0
+abbrev pub operandImm : Operand → ℕ
+operandImm (Register r) = 0
+operandImm (Literal x) = x .0
 
 unfoldable pub encoded : Instruction → Fields
 encoded Stop = fields 0 0 0 0 0
-encoded (Move d b) = fields 1 d 0 (markOf b) (immOf b)
-encoded (Compute op d a b) = fields (opOf op) d a (markOf b) (immOf b)
+encoded (Move d b) = fields 1 d 0 (operandB b) (operandImm b)
+encoded (Compute op d a b) = fields (opOf op) d a (operandB b) (operandImm b)
 encoded (Load width d a imm) = fields (loadOp width) d a 0 imm
 encoded (Store width d a imm) = fields (storeOp width) d a 0 imm
 encoded (Jump a target) = fields 17 0 a 0 target
