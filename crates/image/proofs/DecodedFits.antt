@@ -17,7 +17,7 @@ use Rattle.image.specs.declared.rows.Row.the-variants.{Stops, Moves, Com
 use Rattle.image.specs.declared.Decoded.{Decoded}
 use Rattle.image.specs.declared.Decoded.the-variants.{Valid, Fault}
 use Rattle.image.proofs.Parts.{bytes-part}
-use Rattle.image.proofs.Decoding.{of-answer}
+use Rattle.image.proofs.Decoding.{access-holds, of-answer}
 use Rattle.image.proofs.Tests.{apart, both, all-four}
 
 pub word-lt : (s : List ℕ) (k : ℕ) → Bytes s → nthWord s k < 2 ^ 32
@@ -42,12 +42,8 @@ built-fits (Computes op) d a b imm n m l h =
     let e2 = both (isRegister d && isRegister a) (operandOk b imm) h in
     let e1 = both (isRegister d) (isRegister a) (e2 .0) in
     (ltb-true _ _ (e1 .0), ltb-true _ _ (e1 .1), operand-fits b imm l (e2 .1))
-built-fits (Loads width) d a b imm n m l h =
-    let e1 = both (isRegister d) (isRegister a) (both (isRegister d && isRegister a) (eqb b 0) h .0) in
-    (ltb-true _ _ (e1 .0), ltb-true _ _ (e1 .1), l)
-built-fits (Stores width) d a b imm n m l h =
-    let e1 = both (isRegister d) (isRegister a) (both (isRegister d && isRegister a) (eqb b 0) h .0) in
-    (ltb-true _ _ (e1 .0), ltb-true _ _ (e1 .1), l)
+built-fits (Loads width) d a b imm n m l h = let e = access-holds d a b h in (e .0, e .1, l)
+built-fits (Stores width) d a b imm n m l h = let e = access-holds d a b h in (e .0, e .1, l)
 built-fits Jumps d a b imm n m l h =
     let e = all-four (eqb d 0) (isRegister a) (eqb b 0) (ltb imm n) h in
     (ltb-true _ _ (e .1), ltb-true _ _ (e .3))
@@ -60,21 +56,22 @@ built-fits (Marks addressable) d a b imm n m l h =
     (leb-true _ _ (q .0), leb-true _ _ (q .1))
 built-fits Missing d a b imm n m l h = apart (sym h)
 
-abbrev AnswerFits : (i n m : ℕ) → Decoded → Type 0
-AnswerFits i n m (Valid v) = Fits n m v
-AnswerFits i n m (Fault k) = k ≡ i
-
-answer-fits : (code : List ℕ) (i n m : ℕ) → Bytes code → AnswerFits i n m (decodeAt code i n m)
-answer-fits code i n m b =
-    let f = fieldsAt code i in
-    of-answer (AnswerFits i n m) n m code i (built-fits (rowOf (f .op)) (f .d) (f .a) (f .b) (f .imm) n m (word-lt code (2 * i + 1) b)) refl
+abbrev AnswerFits : (n m : ℕ) → Decoded → Type 0
+AnswerFits n m (Valid v) = Fits n m v
+AnswerFits n m (Fault k) = Unit
 
 pub decoded-fits : (code : List ℕ) (i n m : ℕ) (v : Instruction) → Bytes code → decodeAt code i n m ≡ Valid v → Fits n m v
-decoded-fits code i n m v b h = subst (AnswerFits i n m) h (answer-fits code i n m b)
+decoded-fits code i n m v b h =
+    let f = fieldsAt code i in
+    subst (AnswerFits n m) h (of-answer (AnswerFits n m) n m code i (built-fits (rowOf (f .op)) (f .d) (f .a) (f .b) (f .imm) n m (word-lt code (2 * i + 1) b)) tt)
+
+abbrev PlacedAt : ℕ → Decoded → Type 0
+PlacedAt i (Valid v) = Unit
+PlacedAt i (Fault k) = k ≡ i
 
 -- the place of a fault is the index
-pub fault-place : (code : List ℕ) (i n m k : ℕ) → Bytes code → decodeAt code i n m ≡ Fault k → k ≡ i
-fault-place code i n m k b h = subst (AnswerFits i n m) h (answer-fits code i n m b)
+pub fault-place : (code : List ℕ) (i n m k : ℕ) → decodeAt code i n m ≡ Fault k → k ≡ i
+fault-place code i n m k h = subst (PlacedAt i) h (of-answer (PlacedAt i) n m code i (λ kept. tt) refl)
 
 -- each index below N of an accepted image decodes, to an instruction whose fields fit
 pub decodes : (s : List ℕ) → Bytes s → Accepted s → (i : ℕ) → i < fieldN s

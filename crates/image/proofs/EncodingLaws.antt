@@ -11,7 +11,7 @@ use borrow.Author.Tests.{eqb-true, lt-ltb, le-leb, ne-eqb}
 use Rattle.rules.specs.declared.Operation.{Operation}
 use Rattle.rules.specs.declared.Operation.the-variants.{Add, Sub, Mul, And, Or, Xor, Shl, Shr, Sar, Eq, Ltu}
 use Rattle.image.specs.Format.{instructionSize, registers, ports}
-use Rattle.image.specs.Rows.{rows, rowOf, literalMark, isRegister, operandOk, rangeStart, rangeLength, rangeOk, fieldsOk, operandOf, built, decoded, Fields, fieldsAt, decodeAt}
+use Rattle.image.specs.Rows.{rows, rowOf, literalMark, isRegister, operandOk, rangeStart, rangeLength, rangeOk, fieldsOk, operandOf, built, decoded, Fields, fieldsAt, decodedFrom, decodeAt}
 use Rattle.image.specs.Encoding.{fields, opOf, loadOp, storeOp, markOp, operandB, operandImm, encoded}
 use Rattle.image.specs.Accepted.{OperandFits, Fits}
 use Rattle.image.specs.declared.Operand.{Operand}
@@ -26,19 +26,12 @@ use Rattle.image.specs.declared.Decoded.{Decoded}
 use Rattle.image.specs.declared.Decoded.the-variants.{Valid, Fault}
 use Rattle.image.proofs.Tests.{apart, both, all-four, below}
 use Rattle.rules.proofs.Bits.{lt-or-ge}
-use Rattle.image.proofs.Decoding.{of-answer}
+use Rattle.image.proofs.Decoding.{access-holds, of-answer}
 
 -- ---- from the fields to the instruction and back
+-- the op of the instruction that a row makes
 abbrev numberOf : Row → ℕ
-numberOf Stops = 0
-numberOf Moves = 1
-numberOf (Computes op) = opOf op
-numberOf (Loads width) = loadOp width
-numberOf (Stores width) = storeOp width
-numberOf Jumps = 17
-numberOf Emits = 18
-numberOf (Marks addressable) = markOp addressable
-numberOf Missing = length rows
+numberOf row = encoded (built row 0 0 0 0) .op
 
 operand-back : (b imm : ℕ) → operandOk b imm ≡ true → (operandB (operandOf b imm) ≡ b) × (operandImm (operandOf b imm) ≡ imm)
 operand-back b imm h = go (eqb b literalMark) refl
@@ -62,8 +55,8 @@ built-back Moves d a b imm n m h =
 built-back (Computes op) d a b imm n m h =
     let o = operand-back b imm (both (isRegister d && isRegister a) (operandOk b imm) h .1) in
     rw (o .0, o .1)
-built-back (Loads width) d a b imm n m h = rw (eqb-true b 0 (both (isRegister d && isRegister a) (eqb b 0) h .1))
-built-back (Stores width) d a b imm n m h = rw (eqb-true b 0 (both (isRegister d && isRegister a) (eqb b 0) h .1))
+built-back (Loads width) d a b imm n m h = rw (access-holds d a b h .2)
+built-back (Stores width) d a b imm n m h = rw (access-holds d a b h .2)
 built-back Jumps d a b imm n m h =
     let e = all-four (eqb d 0) (isRegister a) (eqb b 0) (ltb imm n) h in
     rw (eqb-true d 0 (e .0), eqb-true b 0 (e .2))
@@ -80,7 +73,7 @@ numbered : ℕ → Bool
 numbered op = eqb (numberOf (rowOf op)) op
 
 row-number : (op : ℕ) → op < length rows → numberOf (rowOf op) ≡ op
-unfolding numbered rowOf opOf loadOp storeOp markOp
+unfolding numbered rowOf built encoded opOf loadOp storeOp markOp
 row-number op l = eqb-true _ _ (below numbered (length rows) refl op l)
 
 -- an op with a row
@@ -138,9 +131,6 @@ operand-there (Literal x) h = (refl, refl)
 range-there : (start size m : ℕ) → m < 2 ^ 16 → 1 ≤ size → start + size ≤ m
     → (rangeStart (start + 2 ^ 16 * size) ≡ start) × (rangeLength (start + 2 ^ 16 * size) ≡ size)
 range-there start size m l s e = (omega arith, omega arith)
-
-abbrev decodedFrom : Fields → (i n m : ℕ) → Decoded
-decodedFrom f i n m = decoded (rowOf (f .op)) (f .d) (f .a) (f .b) (f .imm) i n m
 
 there : (v : Instruction) (i n m : ℕ) → m < 2 ^ 16 → Fits n m v → decodedFrom (encoded v) i n m ≡ Valid v
 unfolding decoded rowOf fieldsOk built encoded

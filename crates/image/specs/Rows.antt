@@ -112,8 +112,9 @@ fieldsAt code i = record { op = byte 0; d = byte 1; a = byte 2; b = byte 3; imm 
     byte : ℕ → ℕ
     byte k = getD code (instructionSize * i + k) 0
 
+abbrev pub decodedFrom : Fields → (i n m : ℕ) → Decoded
+decodedFrom f i n m = decoded (rowOf (f .op)) (f .d) (f .a) (f .b) (f .imm) i n m
+
 -- instruction number i of the code; code that ends before its eight bytes is at fault
 unfoldable pub decodeAt : List ℕ → ℕ → ℕ → ℕ → Decoded
-decodeAt code i n m =
-    let f = fieldsAt code i in
-    cond (ltb i (length code / instructionSize)) (decoded (rowOf (f .op)) (f .d) (f .a) (f .b) (f .imm) i n m) (Fault i)
+decodeAt code i n m = cond (ltb i (length code / instructionSize)) (decodedFrom (fieldsAt code i) i n m) (Fault i)

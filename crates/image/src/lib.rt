@@ -1,5 +1,6 @@
 // The program image (document 01: the card): reads any bytes, says the first refusal that applies,
-// decodes instructions. Every function is total and equals its definition in specs/.
+// decodes instructions. Every function that another crate can call is total and equals its
+// definition in specs/.
 use rules::Data;
 use rules::Operation;
 

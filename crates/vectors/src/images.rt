@@ -63,7 +63,7 @@ fn put_offsets(image: &mut [u8], code: u32, regions: u32, held: u32) {
     put_word(image, 28, held);
 }
 
-// A region whose first byte stands at.
+// A region, its first byte at that place.
 fn put_region(image: &mut [u8], at: u16, start: u32, size: u32, kind: u32) {
     put_word(image, at, start);
     if at < 65_000 {

@@ -1,6 +1,6 @@
 use borrow.Author.Needs.{needs}
 use mathlib.Core.Path.{_≡_, ap, _∙_}
-use Prim.Native.Nat.{_-_, _*_, _≤_}
+use Prim.Native.Nat.{_-_, _*_, _^_, _≤_}
 use native.Mathlib.Omega.{arith}
 use Rattle.image.specs.Regions.{filledSum}
 use Rattle.image.proofs.RegionLaws.{filled-next}
@@ -8,7 +8,7 @@ use Rattle.image.proofs.regions.filled_sum.Statement.{statement}
 use Rattle.image.proofs.regions.filled_sum.Tie as tie
 
 abbrev Inv-loop : tie.InvT-loop
-Inv-loop regions r count sum₀ i₀ sum i = (i ≤ count) × (sum ≡ filledSum regions i) × (sum ≤ 4294967295 * i)
+Inv-loop regions r count sum₀ i₀ sum i = (i ≤ count) × (sum ≡ filledSum regions i) × (sum ≤ 2 ^ 32 * i)
 
 abbrev μ-loop : tie.MeasureT-loop
 μ-loop regions r count sum₀ i₀ sum i = count - i
