@@ -6,8 +6,8 @@ mod show; // show.rt: text, words and numbers
 mod words; // words.rt: operations on words
 
 fn main() {
-    words::pinned();
-    words::ours();
+    words::table();
+    words::others();
     rows::table();
     rows::ends();
     images::code();

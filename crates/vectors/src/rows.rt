@@ -12,7 +12,7 @@ const N: u32 = 4;
 
 const M: u32 = 16;
 
-fn name(op: Operation) {
+pub fn name(op: Operation) {
     match op {
         Operation::Add => text(b"ADD"),
         Operation::Sub => text(b"SUB"),

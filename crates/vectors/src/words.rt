@@ -1,21 +1,82 @@
 // Cases on words. Each line is one case, in hexadecimal: operands with their V words, "same" where
 // both are one register, then the result's data and V word.
+use super::rows;
 use super::show::text;
 use super::show::word;
 use rules::Data;
 use rules::Operation;
 use rules::Shadow;
 
-// One operation on x and y with the V words v and w. same: a and B are one register.
-fn operate(name: &[u8], op: Operation, same: bool, x: u32, v: u32, y: u32, w: u32) {
-    let z = rules::action(op, Data(x), Data(y));
-    let u = rules::shadow_of(op, same, Data(x), Shadow(v), Data(y), Shadow(w));
-    text(name);
-    word(b" x ", x);
-    word(b" v ", v);
-    word(b" y ", y);
-    word(b" w ", w);
-    if same {
+// An operation, whether both operands are one register, and x, v, y and w.
+struct Case(Operation, bool, u32, u32, u32, u32);
+
+const CASES: usize = 32;
+
+// The rows of rules/specs/Pinned.antt: first those that document 01 pins.
+const TABLE: [Case; CASES] = [
+    Case(Operation::Add, false, 0, 0x100, 0, 0),
+    Case(Operation::And, false, 0xf, 0, 0xffff_ffff, 0xffff_ffff),
+    Case(Operation::And, false, 0xffff_ffff, 0xffff_ffff, 1, 0),
+    Case(Operation::Or, false, 0xf, 0, 0, 0xffff_ffff),
+    Case(
+        Operation::Xor,
+        true,
+        0x1234_5678,
+        0xffff_ffff,
+        0x1234_5678,
+        0xffff_ffff,
+    ),
+    Case(Operation::Shl, false, 0x81, 0x81, 4, 0),
+    Case(Operation::Shl, false, 0x81, 0x81, 32, 0),
+    Case(Operation::Sar, false, 0x8000_0000, 0x8000_0000, 4, 0),
+    Case(Operation::Shr, false, 0x8000_0000, 0x8000_0000, 4, 0),
+    Case(Operation::Shl, false, 1, 0, 0, 0x20),
+    Case(Operation::Shr, false, 1, 0, 0, 0x20),
+    Case(Operation::Sar, false, 1, 0, 0, 0x20),
+    Case(Operation::Eq, false, 0, 0x80, 0, 0),
+    Case(Operation::Mul, false, 0xffff_ffff, 0, 0xffff_ffff, 0),
+    // ours
+    Case(Operation::Add, false, 0xffff_ffff, 0, 0x8000_0001, 0),
+    Case(Operation::Add, false, 0, 0, 0, 0x100),
+    Case(Operation::Sub, false, 0, 0, 1, 0x10),
+    Case(Operation::Sub, true, 5, 0x10, 5, 0x10),
+    Case(Operation::Mul, false, 3, 0x8000_0000, 5, 0),
+    Case(Operation::Mul, false, 0, 0, 5, 1),
+    Case(Operation::Or, false, 0, 0xffff_ffff, 1, 0),
+    Case(Operation::Xor, false, 0xff00, 0xf0, 0x0ff0, 0xf),
+    Case(Operation::Shl, false, 3, 3, 31, 0),
+    Case(
+        Operation::Shr,
+        false,
+        0x8000_0000,
+        0x8000_0000,
+        0xffff_ffff,
+        0,
+    ),
+    Case(Operation::Sar, false, 0x4000_0000, 0x4000_0000, 30, 0),
+    Case(Operation::Shl, false, 1, 0, 0, 0x8000_0000),
+    Case(Operation::Eq, false, 0, 0, 0x8000_0000, 0),
+    Case(Operation::Eq, false, 0, 0, 1, 0x8000_0000),
+    Case(Operation::Eq, true, 7, 0x80, 7, 0x80),
+    Case(Operation::Ltu, false, 1, 0, 0x8000_0000, 0),
+    Case(Operation::Ltu, false, 1, 0, 1, 0x8000_0000),
+    Case(Operation::Ltu, true, 1, 1, 1, 1),
+];
+
+fn operate(c: Case) {
+    let op = c.0;
+    let x = Data(c.2);
+    let v = Shadow(c.3);
+    let y = Data(c.4);
+    let w = Shadow(c.5);
+    let z = rules::action(op, x, y);
+    let u = rules::shadow_of(op, c.1, x, v, y, w);
+    rows::name(op);
+    word(b" x ", x.0);
+    word(b" v ", v.0);
+    word(b" y ", y.0);
+    word(b" w ", w.0);
+    if c.1 {
         text(b" same");
     }
     word(b": ", z.0);
@@ -23,14 +84,22 @@ fn operate(name: &[u8], op: Operation, same: bool, x: u32, v: u32, y: u32, w: u3
     text(b"\n");
 }
 
-fn show_left(v: u32) {
+pub fn table() {
+    let mut i = 0;
+    while i < CASES {
+        operate(TABLE[i]);
+        i += 1;
+    }
+}
+
+fn left(v: u32) {
     let u = rules::shadows::left(Shadow(v));
     word(b"Left ", v);
     word(b": ", u.0);
     text(b"\n");
 }
 
-fn show_mov(y: u32, v: u32) {
+fn mov(y: u32, v: u32) {
     let z = rules::actions::mov(Data(y));
     let u = rules::shadows::mov(Shadow(v));
     word(b"MOV y ", y);
@@ -41,7 +110,7 @@ fn show_mov(y: u32, v: u32) {
 }
 
 // The word of four bytes, and that word's byte 3 and byte 4.
-fn show_bytes(b0: u8, b1: u8, b2: u8, b3: u8) {
+fn bytes(b0: u8, b1: u8, b2: u8, b3: u8) {
     let x = rules::bytes::join4(b0, b1, b2, b3);
     word(b"bytes make ", x);
     word(
@@ -55,118 +124,10 @@ fn show_bytes(b0: u8, b1: u8, b2: u8, b3: u8) {
     text(b"\n");
 }
 
-// The cases that document 01 pins.
-pub fn pinned() {
-    operate(b"ADD", Operation::Add, false, 0, 0x100, 0, 0);
-    show_left(0);
-    show_left(0x8000_0000);
-    operate(
-        b"AND",
-        Operation::And,
-        false,
-        0xf,
-        0,
-        0xffff_ffff,
-        0xffff_ffff,
-    );
-    operate(
-        b"AND",
-        Operation::And,
-        false,
-        0xffff_ffff,
-        0xffff_ffff,
-        1,
-        0,
-    );
-    operate(b"OR ", Operation::Or, false, 0xf, 0, 0, 0xffff_ffff);
-    operate(
-        b"XOR",
-        Operation::Xor,
-        true,
-        0x1234_5678,
-        0xffff_ffff,
-        0x1234_5678,
-        0xffff_ffff,
-    );
-    operate(b"SHL", Operation::Shl, false, 0x81, 0x81, 4, 0);
-    operate(b"SHL", Operation::Shl, false, 0x81, 0x81, 32, 0);
-    operate(
-        b"SAR",
-        Operation::Sar,
-        false,
-        0x8000_0000,
-        0x8000_0000,
-        4,
-        0,
-    );
-    operate(
-        b"SHR",
-        Operation::Shr,
-        false,
-        0x8000_0000,
-        0x8000_0000,
-        4,
-        0,
-    );
-    operate(b"SHL", Operation::Shl, false, 1, 0, 0, 0x20);
-    operate(b"SHR", Operation::Shr, false, 1, 0, 0, 0x20);
-    operate(b"SAR", Operation::Sar, false, 1, 0, 0, 0x20);
-    operate(b"EQ ", Operation::Eq, false, 0, 0x80, 0, 0);
-    operate(
-        b"MUL",
-        Operation::Mul,
-        false,
-        0xffff_ffff,
-        0,
-        0xffff_ffff,
-        0,
-    );
-}
-
-// The rows that rules/specs/Pinned.antt adds, and the bytes of a word.
-pub fn ours() {
-    show_mov(0xdead_beef, 0x0f0f_0f0f);
-    operate(
-        b"ADD",
-        Operation::Add,
-        false,
-        0xffff_ffff,
-        0,
-        0x8000_0001,
-        0,
-    );
-    operate(b"ADD", Operation::Add, false, 0, 0, 0, 0x100);
-    operate(b"SUB", Operation::Sub, false, 0, 0, 1, 0x10);
-    operate(b"SUB", Operation::Sub, true, 5, 0x10, 5, 0x10);
-    operate(b"MUL", Operation::Mul, false, 3, 0x8000_0000, 5, 0);
-    operate(b"MUL", Operation::Mul, false, 0, 0, 5, 1);
-    operate(b"OR ", Operation::Or, false, 0, 0xffff_ffff, 1, 0);
-    operate(b"XOR", Operation::Xor, false, 0xff00, 0xf0, 0x0ff0, 0xf);
-    operate(b"SHL", Operation::Shl, false, 3, 3, 31, 0);
-    operate(
-        b"SHR",
-        Operation::Shr,
-        false,
-        0x8000_0000,
-        0x8000_0000,
-        0xffff_ffff,
-        0,
-    );
-    operate(
-        b"SAR",
-        Operation::Sar,
-        false,
-        0x4000_0000,
-        0x4000_0000,
-        30,
-        0,
-    );
-    operate(b"SHL", Operation::Shl, false, 1, 0, 0, 0x8000_0000);
-    operate(b"EQ ", Operation::Eq, false, 0, 0, 0x8000_0000, 0);
-    operate(b"EQ ", Operation::Eq, false, 0, 0, 1, 0x8000_0000);
-    operate(b"EQ ", Operation::Eq, true, 7, 0x80, 7, 0x80);
-    operate(b"LTU", Operation::Ltu, false, 1, 0, 0x8000_0000, 0);
-    operate(b"LTU", Operation::Ltu, false, 1, 0, 1, 0x8000_0000);
-    operate(b"LTU", Operation::Ltu, true, 1, 1, 1, 1);
-    show_bytes(0xaa, 0xbb, 0xcc, 0xdd);
+// What has no two operands: Left, MOV and the bytes of a word.
+pub fn others() {
+    left(0);
+    left(0x8000_0000);
+    mov(0xdead_beef, 0x0f0f_0f0f);
+    bytes(0xaa, 0xbb, 0xcc, 0xdd);
 }
