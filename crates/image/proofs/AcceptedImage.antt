@@ -4,13 +4,14 @@ use mathlib.Core.Path.{_≡_, refl, sym, _∙_, ap}
 use mathlib.Core.Logic.{_⊎_, inl, inr, ⊎-elim}
 use mathlib.Core.Bool.{Bool, true, _||_}
 use mathlib.Core.List.{List}
+use native.Mathlib.Nat.{eq-or-lt-of-le}
 use native.Mathlib.Omega.{arith}
 use lib.Dec.{leb, eqb, lit<}
 use lib.ListN.{length, getD, take}
 use lib.Seq.{ext-getD, getD-take, length-take-le}
 use borrow.Author.Tests.{leb-true, eqb-true, le-leb, eq-eqb}
 use Rattle.image.specs.Format.{magic, largest, headerSize, instructionSize, regionSize, mostM, mostN, mostR, mostD, regionsAt, dataAt, sizeOf, fieldM, fieldN, fieldR, fieldD, codeOffset, regionOffset, dataOffset, magicOk, limitsOk, layoutOk, codePart, regionPart, dataPart}
-use Rattle.image.specs.Regions.{filledKind, undefinedKind, endOf, regionKeeps, regionOk, filledSum}
+use Rattle.image.specs.Regions.{filledKind, undefinedKind, regionAt, endOf, endBefore, regionKeeps, regionOk, filledSum}
 use Rattle.image.specs.Refusals.{tooShort, wrongMagic, outOfLimits, wrongLayout, badInstruction, badRegion, wrongSum, accepted, orElse, isValid, instructionOk, codeRefusal, regionRefusal, sumRefusal, contentRefusal, refusalWith, refusalOf, headerOf, codeOf}
 use Rattle.image.specs.Accepted.{Limits, Layout, Keeps, AcceptedWith, Accepted}
 use Rattle.image.specs.declared.Decoded.{Decoded}
@@ -162,3 +163,12 @@ module _ (s : List ℕ) (a : Accepted s) where
 
   pub data-length : length (dataPart s (fieldN s) (fieldR s) (fieldD s)) ≡ fieldD s
   data-length = length-part s (dataAt (fieldN s) (fieldR s)) (fieldD s) (omega (arith, a .layout .size))
+
+  -- its regions lie apart, in their order
+  pub regions-apart : (i j : ℕ) → i < j → j < fieldR s
+      → endOf (regionAt (regionPart s (fieldN s) (fieldR s)) i) ≤ regionAt (regionPart s (fieldN s) (fieldR s)) j .start
+  unfolding endBefore
+  regions-apart i zero l h = absurd (omega arith)
+  regions-apart i (suc j) l h =
+      let follows = a .regions (suc j) h .follows in
+      ⊎-elim (λ (e : i ≡ j). rw e follows) (λ (q : i < j). omega (arith, regions-apart i j q (omega arith), follows)) (eq-or-lt-of-le (let q : i ≤ j = omega arith in q))

@@ -24,7 +24,7 @@ use Rattle.image.specs.declared.rows.Row.{Row}
 use Rattle.image.specs.declared.rows.Row.the-variants.{Stops, Moves, Computes, Loads, Stores, Jumps, Emits, Marks, Missing}
 use Rattle.image.specs.declared.Decoded.{Decoded}
 use Rattle.image.specs.declared.Decoded.the-variants.{Valid, Fault}
-use Rattle.image.proofs.Tests.{apart, both, all-four, below}
+use Rattle.image.proofs.Tests.{apart, both, all-four, every-below}
 use Rattle.rules.proofs.Bits.{lt-or-ge}
 use Rattle.image.proofs.Decoding.{access-holds, of-answer}
 
@@ -74,7 +74,7 @@ numbered op = eqb (numberOf (rowOf op)) op
 
 row-number : (op : ℕ) → op < length rows → numberOf (rowOf op) ≡ op
 unfolding numbered rowOf built encoded opOf loadOp storeOp markOp
-row-number op l = eqb-true _ _ (below numbered (length rows) refl op l)
+row-number op l = eqb-true _ _ (every-below numbered (length rows) refl op l)
 
 -- an op with a row
 has-row : (op d a b imm n m : ℕ) → fieldsOk (rowOf op) d a b imm n m ≡ true → op < length rows

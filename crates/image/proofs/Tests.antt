@@ -5,6 +5,7 @@ use mathlib.Core.Logic.{_⊎_, inl, inr, ⊎-elim}
 use mathlib.Core.Bool.{Bool, true, false, _&&_, _||_}
 use native.Mathlib.Nat.{eq-or-lt-of-le}
 use native.Mathlib.Omega.{arith}
+use Rattle.image.specs.Tests.{every}
 
 -- true is not false
 pub apart : {A : Type 0} → true ≡ false → A
@@ -25,13 +26,9 @@ pub either : (a b : Bool) → a || b ≡ true → (a ≡ true) ⊎ (b ≡ true)
 either true b h = inl refl
 either false b h = inr h
 
--- ---- a test of every number below n
-abbrev pub all-below : (ℕ → Bool) → ℕ → Bool
-all-below p zero = true
-all-below p (suc n) = all-below p n && p n
-
-pub below : (p : ℕ → Bool) (n : ℕ) → all-below p n ≡ true → (k : ℕ) → k < n → p k ≡ true
-below p zero h k l = absurd (omega arith)
-below p (suc n) h k l =
-    let e = both (all-below p n) (p n) h in
-    ⊎-elim (λ (q : k ≡ n). ap p q ∙ e .1) (λ (q : k < n). below p n (e .0) k q) (eq-or-lt-of-le (let q : k ≤ n = omega arith in q))
+-- what every number below n passes, each does
+pub every-below : (test : ℕ → Bool) (n : ℕ) → every test n ≡ true → (k : ℕ) → k < n → test k ≡ true
+every-below test zero h k l = absurd (omega arith)
+every-below test (suc n) h k l =
+    let e = both (every test n) (test n) h in
+    ⊎-elim (λ (q : k ≡ n). ap test q ∙ e .1) (λ (q : k < n). every-below test n (e .0) k q) (eq-or-lt-of-le (let q : k ≤ n = omega arith in q))

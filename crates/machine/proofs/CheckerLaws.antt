@@ -1,0 +1,102 @@
+-- Laws of the checker's run: what it means that no reason to stop holds; and reports never go down.
+use Prim.Native.Nat.{ℕ, zero, suc, _+_, _*_, _/_, _≤_, _<_}
+use mathlib.Core.Path.{_≡_, refl, sym, ap, subst, _∙_}
+use mathlib.Core.Bool.{Bool, true, false, cond, _&&_}
+use native.Mathlib.Omega.{arith}
+use native.Mathlib.Nat.{pos-of-ne-zero}
+use lib.Dec.{eqb, leb, eqb·suc-zero}
+use borrow.Author.Tests.{leb-false}
+use Rattle.machine.specs.Machine.{World, Program}
+use Rattle.machine.specs.Lists.{outputPlaces}
+use Rattle.machine.specs.Runs.{noPlace, isStop, isEmit, reasonAt, Ended, runOn}
+use Rattle.machine.specs.Checker.{counted, stepped, reasonOf, nextOf, runOf}
+use Rattle.machine.proofs.RunLaws.{Steady, halts, goes}
+
+-- ---- no reason to stop
+pub record Goes (program : Program) (places left index outputs : ℕ) : Type 0 where
+  pub before-end : index < program .count
+  pub no-stop : isStop (program .at index) ≡ false
+  pub has-place : isEmit (program .at index) && leb places outputs ≡ false
+  pub has-budget : 0 < left
+
+-- a test whose answer would be a reason has failed
+passed : (t : Bool) (r rest : ℕ) → cond t (suc r) rest ≡ 0 → (t ≡ false) × (rest ≡ 0)
+passed true r rest e = absurd (omega arith)
+passed false r rest e = (refl, e)
+
+some-left : (left : ℕ) → eqb left 0 ≡ false → 0 < left
+some-left zero e = absurd (let z : _≡_ {A = ℕ} 0 1 = cc in omega arith)
+some-left (suc left) e = omega arith
+
+pub reason-goes : (program : Program) (places left index outputs : ℕ) → reasonAt program places left index outputs ≡ 0 → Goes program places left index outputs
+unfolding reasonAt
+reason-goes program places left index outputs e =
+    let end = passed (leb (program .count) index) 1 _ e in
+    let stop = passed (isStop (program .at index)) 0 _ (end .1) in
+    let place = passed (isEmit (program .at index) && leb places outputs) 3 _ (stop .1) in
+    let budget = passed (eqb left 0) 2 _ (place .1) in
+    record {
+      before-end = leb-false (program .count) index (end .0);
+      no-stop = stop .0;
+      has-place = place .0;
+      has-budget = some-left left (budget .0);
+    }
+
+pub reason-steady : (program : Program) (places j k index outputs : ℕ) → reasonAt program places (suc j) index outputs ≡ reasonAt program places (suc k) index outputs
+unfolding reasonAt
+reason-steady program places j k index outputs = rw (eqb·suc-zero j, eqb·suc-zero k)
+
+pub checker-steady : (program : Program) → Steady (reasonOf program) (nextOf program)
+unfolding reasonOf
+checker-steady program j k w = reason-steady program (outputPlaces (w .outputList)) j k (w .counts .index) (w .counts .outputs)
+
+-- ---- reports never go down
+step-reports : (program : Program) (w : World) → w .counts .reports ≤ nextOf program w .counts .reports
+unfolding nextOf stepped counted
+step-reports program w = omega arith
+
+pub reports-grow : (program : Program) (left : ℕ) (w : World) → w .counts .reports ≤ runOf program left w .state .counts .reports
+unfolding runOn
+reports-grow program zero w = omega arith
+reports-grow program (suc left) w = go (reports-grow program left (nextOf program w)) (reasonOf program (suc left) w) refl
+  where
+    reports : {x y : Ended World} → x ≡ y → x .state .counts .reports ≡ y .state .counts .reports
+    reports e = ap (λ (x : Ended World). x .state .counts .reports) e
+
+    go : nextOf program w .counts .reports ≤ runOf program left (nextOf program w) .state .counts .reports
+        → (r : ℕ) → reasonOf program (suc left) w ≡ r → w .counts .reports ≤ runOf program (suc left) w .state .counts .reports
+    go ih zero e = omega (arith, step-reports program w, ih, reports (goes (reasonOf program) (nextOf program) left w e))
+    go ih (suc r) e = omega (arith, reports (halts (reasonOf program) (nextOf program) (suc left) r w e))
+
+-- ---- a run ends with one of the four reasons
+cond-most : (t : Bool) (a b n : ℕ) → a ≤ n → b ≤ n → cond t a b ≤ n
+cond-most true a b n p q = p
+cond-most false a b n p q = q
+
+reason-most : (program : Program) (left : ℕ) (w : World) → reasonOf program left w ≤ noPlace
+unfolding reasonOf reasonAt
+reason-most program left w =
+    cond-most (leb (program .count) (w .counts .index)) _ _ _ (omega arith)
+    (cond-most (isStop (program .at (w .counts .index))) _ _ _ (omega arith)
+    (cond-most (isEmit (program .at (w .counts .index)) && leb (outputPlaces (w .outputList)) (w .counts .outputs)) _ _ _ (omega arith)
+    (cond-most (eqb left 0) _ _ _ (omega arith) (omega arith))))
+
+-- with no budget left some reason holds
+pub reason-spent : (program : Program) (w : World) → reasonOf program 0 w ≡ 0 → ⊥
+unfolding reasonOf
+reason-spent program w e = let g = reason-goes program (outputPlaces (w .outputList)) 0 (w .counts .index) (w .counts .outputs) e in omega (arith, g .has-budget)
+
+pub record EndReason (reason : ℕ) : Type 0 where
+  pub some : 1 ≤ reason
+  pub most : reason ≤ noPlace
+
+pub run-reason : (program : Program) (left : ℕ) (w : World) → EndReason (runOf program left w .reason)
+unfolding runOn
+run-reason program zero w = record { some = pos-of-ne-zero (reason-spent program w); most = reason-most program zero w }
+run-reason program (suc left) w = go (run-reason program left (nextOf program w)) (reasonOf program (suc left) w) refl
+  where
+    go : EndReason (runOf program left (nextOf program w) .reason) → (r : ℕ) → reasonOf program (suc left) w ≡ r → EndReason (runOf program (suc left) w .reason)
+    go ih zero e = subst (λ (x : Ended World). EndReason (x .reason)) (sym (goes (reasonOf program) (nextOf program) left w e)) ih
+    go ih (suc r) e =
+        subst (λ (x : Ended World). EndReason (x .reason)) (sym (halts (reasonOf program) (nextOf program) (suc left) r w e))
+        (record { some = omega arith; most = subst (λ (k : ℕ). k ≤ noPlace) e (reason-most program (suc left) w) })

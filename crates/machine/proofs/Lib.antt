@@ -1,0 +1,11 @@
+pub mod RunLaws
+pub mod CheckerLaws
+pub mod ListLaws
+pub mod Places
+pub mod Relation
+pub mod StepLaw
+pub mod BeginningLaw
+pub mod BeginningBytes
+pub mod CallLaws
+pub mod Cases
+pub mod Example

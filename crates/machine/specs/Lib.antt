@@ -1,0 +1,11 @@
+pub mod Machine
+pub mod Ranges
+pub mod Beginning
+pub mod Instructions
+pub mod Steps
+pub mod Lists
+pub mod Runs
+pub mod Checker
+pub mod Bare
+pub mod Calls
+pub mod Cases

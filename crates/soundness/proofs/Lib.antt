@@ -1,0 +1,3 @@
+pub mod RunsAlike
+pub mod Theorem
+pub mod Samples

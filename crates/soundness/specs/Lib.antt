@@ -1,0 +1,3 @@
+pub mod Series
+pub mod Claim
+pub mod Samples
