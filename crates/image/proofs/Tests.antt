@@ -15,12 +15,17 @@ pub both : (a b : Bool) → a && b ≡ true → (a ≡ true) × (b ≡ true)
 both true b h = (refl, h)
 both false b h = apart (cc)
 
+pub all-three : (a b c : Bool) → a && b && c ≡ true → (a ≡ true) × (b ≡ true) × (c ≡ true)
+all-three a b c h =
+    let e2 = both (a && b) c h in
+    let e1 = both a b (e2 .0) in
+    (e1 .0, e1 .1, e2 .1)
+
 pub all-four : (a b c d : Bool) → a && b && c && d ≡ true → (a ≡ true) × (b ≡ true) × (c ≡ true) × (d ≡ true)
 all-four a b c d h =
     let e3 = both (a && b && c) d h in
-    let e2 = both (a && b) c (e3 .0) in
-    let e1 = both a b (e2 .0) in
-    (e1 .0, e1 .1, e2 .1, e3 .1)
+    let e = all-three a b c (e3 .0) in
+    (e .0, e .1, e .2, e3 .1)
 
 pub either : (a b : Bool) → a || b ≡ true → (a ≡ true) ⊎ (b ≡ true)
 either true b h = inl refl
@@ -32,3 +37,8 @@ every-below test zero h k l = absurd (omega arith)
 every-below test (suc n) h k l =
     let e = both (every test n) (test n) h in
     ⊎-elim (λ (q : k ≡ n). ap test q ∙ e .1) (λ (q : k < n). every-below test n (e .0) k q) (eq-or-lt-of-le (let q : k ≤ n = omega arith in q))
+
+-- and the other way round
+pub all-every : (test : ℕ → Bool) (n : ℕ) → ((k : ℕ) → k < n → test k ≡ true) → every test n ≡ true
+all-every test zero h = refl
+all-every test (suc n) h = rw (all-every test n (λ k l. h k (omega arith)), h n (omega arith))

@@ -1,23 +1,21 @@
 -- What each byte gets at the beginning (01, Beginning): the filled ones the image's data, A 1 and V 0; those of kind 2 A 1 and V 255; all others A 0
 -- and V 255. Where the image gives no data, the data is untouched.
 use Prim.Native.Nat.{ℕ, zero, suc, _+_, _≤_, _<_}
-use mathlib.Core.Path.{_≡_, refl, sym, ap, subst, _∙_}
+use mathlib.Core.Path.{_≡_, refl, subst, _∙_}
 use mathlib.Core.Logic.{_⊎_, inl, inr, ⊎-elim}
 use mathlib.Core.Bool.{Bool, true, false, cond}
 use mathlib.Core.List.{List}
 use native.Mathlib.Omega.{arith}
 use native.Mathlib.Nat.{eq-or-lt-of-le}
 use lib.ListN.{length, getD, replicate, length-replicate, getD-replicate}
-use lib.Dec.{eqb}
 use borrow.Author.Tests.{eq-eqb, ne-eqb}
 use Rattle.rules.proofs.Bits.{lt-or-ge}
 use Rattle.image.specs.Format.{fieldM, fieldR}
 use Rattle.image.specs.Regions.{filledKind, undefinedKind, regionAt, endOf, filledSum}
-use Rattle.image.specs.Accepted.{Keeps, Accepted}
-use Rattle.image.specs.declared.Region.{Region}
+use Rattle.image.specs.Accepted.{Accepted}
 use Rattle.image.proofs.AcceptedImage.{regions-apart}
 use Rattle.machine.specs.Ranges.{written, filled}
-use Rattle.machine.specs.Beginning.{Memory, undefinedByte, definedByte, addressableMark, unaddressableMark, isFilled, layData, layV, layA, laid, regionsOf, dataOf, begunMemory, begunV, begunA}
+use Rattle.machine.specs.Beginning.{undefinedByte, definedByte, addressableMark, unaddressableMark, isFilled, layData, layV, layA, laid, regionsOf, dataOf, begunMemory, begunV, begunA}
 use Rattle.machine.proofs.Places.{length-written, written-there, written-elsewhere}
 
 -- ---- a place of what was laid
@@ -113,6 +111,19 @@ module _ (s mem : List ℕ) (a : Accepted s) (size : length mem ≡ fieldM s) wh
       go : (t : Bool) → getD (cond t (copied j l) l) x 0 ≡ getD l x 0
       go true = written-elsewhere _ l _ _ x out
       go false = refl
+
+  -- ---- no buffer changes its length
+  pub length-memory : length (begunMemory s mem) ≡ fieldM s
+  unfolding begunMemory
+  length-memory = laid-length (layData (regionsOf s) (dataOf s)) data-keeps (fieldR s) mem ∙ size
+
+  pub length-V : length (begunV s) ≡ fieldM s
+  unfolding begunV
+  length-V = laid-length (layV (regionsOf s)) (λ i l. length-written _ l _ _) (fieldR s) (replicate (fieldM s) undefinedByte) ∙ length-replicate (fieldM s) undefinedByte
+
+  pub length-A : length (begunA s) ≡ fieldM s
+  unfolding begunA
+  length-A = laid-length (layA (regionsOf s)) (λ i l. length-written _ l _ _) (fieldR s) (replicate (fieldM s) unaddressableMark) ∙ length-replicate (fieldM s) unaddressableMark
 
   -- ---- the three sentences
   pub begun-filled : (i k : ℕ) → i < fieldR s → regionAt (regionsOf s) i .kind ≡ filledKind → k < regionAt (regionsOf s) i .size

@@ -1,24 +1,24 @@
 -- The beginning: the two machines are in step, whatever was in registers and memory before, if register 15 is alike.
-use Prim.Native.Nat.{ℕ, zero, suc, _+_, _-_, _^_, _<_}
-use mathlib.Core.Path.{_≡_, refl, sym, ap, subst, _∙_}
+use Prim.Native.Nat.{ℕ, zero, suc, _+_, _-_}
+use mathlib.Core.Path.{_≡_, refl, subst}
 use mathlib.Core.Bool.{Bool, true, false, cond}
-use mathlib.Core.List.{List, []}
+use mathlib.Core.List.{List}
 use native.Mathlib.Omega.{arith}
-use lib.ListN.{length, getD, replicate}
+use lib.ListN.{getD}
 use Rattle.rules.specs.Word.{allOnes}
 use Rattle.rules.specs.Agreement.{Alike}
 use Rattle.rules.proofs.Agreement.{alike-self, alike-undefined}
 use Rattle.image.specs.Words.{Bytes}
-use Rattle.image.specs.Format.{registers, dataAt, fieldM, fieldN, fieldR, fieldD, regionPart, dataPart}
+use Rattle.image.specs.Format.{registers, dataAt, fieldM, fieldN, fieldR, fieldD}
 use Rattle.image.specs.Regions.{regionAt, filledSum}
 use Rattle.image.specs.declared.Region.{Region}
 use Rattle.image.proofs.Parts.{bytes-part}
-use Rattle.machine.specs.Machine.{Parts, zeroCounts, World}
+use Rattle.machine.specs.Machine.{zeroCounts}
 use Rattle.machine.specs.Ranges.{written, filled}
 use Rattle.machine.specs.Beginning.{Registers, Memory, undefinedByte, definedByte, addressableMark, unaddressableMark, isFilled, layData, layV, layA, laid, regionsOf, dataOf, begunMemory, begunV, begunA, frameRegister, begunRegsV, begunParts}
 use Rattle.machine.specs.Lists.{outputPlaces, outputsIn}
 use Rattle.machine.specs.Bare.{bareBegun}
-use Rattle.machine.proofs.Relation.{Beside, WordAlike, ByteAlike, PartsAlike, InStep, beside-shadow, beside-all, byte-undefined, mark-alike, data-alike}
+use Rattle.machine.proofs.Relation.{Beside, WordAlike, ByteAlike, InStep, beside-shadow, beside-all, byte-undefined, mark-alike, data-alike}
 
 -- ---- the memory
 module _ (regions held : List ℕ) (b : Bytes held) where

@@ -1,8 +1,6 @@
 -- The cases of specs/Cases.antt hold: the definitions compute to what was worked out by hand.
 use mathlib.Core.Path.{_≡_, refl}
-use mathlib.Core.List.{List, map}
-use Prim.Native.Nat.{ℕ}
-use Rattle.rules.specs.Word.{bit}
+use mathlib.Core.List.{map}
 use Rattle.rules.specs.Bytes.{joined}
 use Rattle.rules.specs.Operations.{actionOf, shadowOf}
 use Rattle.machine.specs.Ranges.{written, storedWhere}
@@ -10,7 +8,7 @@ use Rattle.machine.specs.Instructions.{blocked, wayOn, outputsOf}
 use Rattle.machine.specs.Steps.{withRegister, cleared, loadStep, storeStep, markStep, acted, ifUndefined, ifBlocked, reportsOf}
 use Rattle.machine.specs.Lists.{entered}
 use Rattle.machine.specs.Runs.{isStop, isEmit, reasonAt}
-use Rattle.machine.specs.Cases.{Outcome, Case, cases, outcomeOf, ReasonCase, reasonCases, reasonGiven, EntryCase, entryCases, listGiven}
+use Rattle.machine.specs.Cases.{Case, cases, outcomeOf, ReasonCase, reasonCases, reasonGiven, EntryCase, entryCases, listGiven}
 
 pub cases-hold : map outcomeOf cases ≡ map (λ (c : Case). c .outcome) cases
 unfolding joined actionOf shadowOf written storedWhere blocked wayOn outputsOf withRegister cleared loadStep storeStep markStep acted ifUndefined ifBlocked reportsOf

@@ -1,23 +1,21 @@
 -- Document 01's example (01, The program), run through the definitions: zeros everywhere, register 15 equal to M, 64 report places,
 -- 256 output places, budget 1,000,000. What comes out are the numbers of its three lines.
 use mathlib.Core.Path.{_≡_, refl}
-use mathlib.Core.List.{List, [], _∷_, _++_}
+use mathlib.Core.List.{List, _∷_}
 use Prim.Native.Nat.{ℕ, _*_}
-use lib.ListN.{length, replicate, set}
-use Rattle.rules.specs.Word.{bit}
+use lib.ListN.{replicate, set}
 use Rattle.rules.specs.Bytes.{joined}
-use Rattle.rules.specs.Operations.{actionOf, shadowOf}
 use Rattle.image.specs.Words.{nthWord}
 use Rattle.image.specs.Format.{registers, fieldM}
 use Rattle.image.specs.Rows.{rowOf, fieldsOk, built, decoded, decodeAt}
 use Rattle.image.specs.Regions.{regionAt, endBefore, regionOk, filledSum}
 use Rattle.image.specs.Refusals.{accepted, firstFault, instructionOk, codeRefusal, regionRefusal, refusalOf}
 use Rattle.image.specs.Example.{example}
-use Rattle.machine.specs.Machine.{World, programOf}
-use Rattle.machine.specs.Ranges.{written, storedWhere}
+use Rattle.machine.specs.Machine.{programOf}
+use Rattle.machine.specs.Ranges.{written}
 use Rattle.machine.specs.Beginning.{laid, begunMemory, begunV, begunA, frameRegister, begunParts}
 use Rattle.machine.specs.Instructions.{blocked, wayOn, outputsOf}
-use Rattle.machine.specs.Steps.{withRegister, cleared, loadStep, storeStep, markStep, acted, ifUndefined, ifBlocked, undefinedOutput, reportsOf}
+use Rattle.machine.specs.Steps.{withRegister, cleared, loadStep, acted, ifUndefined, ifBlocked, undefinedOutput, reportsOf}
 use Rattle.machine.specs.Lists.{reportSize, outputSize, entered, reportsEntered, outputsEntered}
 use Rattle.machine.specs.Runs.{stopped, isStop, isEmit, reasonAt, runOn}
 use Rattle.machine.specs.Checker.{counted, stepped, reasonOf, nextOf}

@@ -1,11 +1,15 @@
+pub mod ProgramLaws
 pub mod RunLaws
 pub mod CheckerLaws
-pub mod ListLaws
 pub mod Places
+pub mod ListLaws
+pub mod StepBounds
 pub mod Relation
 pub mod StepLaw
 pub mod BeginningLaw
 pub mod BeginningBytes
 pub mod CallLaws
+pub mod AllowedRuns
+pub mod Continued
 pub mod Cases
 pub mod Example

@@ -2,7 +2,7 @@
 -- entered are those that stand in the list.
 use Prim.Native.Nat.{ℕ, zero, suc, _+_, _*_, _/_, _≤_, _<_}
 use mathlib.Core.Path.{_≡_, refl, sym, ap, _∙_}
-use mathlib.Core.Logic.{_⊎_, inl, inr, ⊎-elim}
+use mathlib.Core.Logic.{_⊎_, inl}
 use mathlib.Core.Bool.{Bool, true, false, cond}
 use mathlib.Core.List.{List, [], _∷_, _++_, append-assoc, append-nil}
 use native.Mathlib.Omega.{arith}
@@ -11,8 +11,9 @@ use lib.ListN.{length, getD, length-append}
 use lib.Dec.{ltb}
 use lib.Seq.{sets, length-sets}
 use borrow.Author.Tests.{lt-ltb, le-ltb}
-use Rattle.machine.specs.Instructions.{Output, output}
-use Rattle.machine.specs.Lists.{outputSize, outputPlaces, outputWords, entered, outputsEntered, outputsIn}
+use Rattle.machine.specs.Instructions.{Output}
+use Rattle.machine.specs.Steps.{Report}
+use Rattle.machine.specs.Lists.{reportSize, reportWords, reportsEntered, outputSize, outputPlaces, outputWords, entered, outputsEntered, outputsIn}
 use Rattle.machine.proofs.Places.{sets-there, sets-elsewhere}
 
 -- ---- one entry of so many words
@@ -47,6 +48,23 @@ entered-elsewhere size k i words l h = go (ltb k (length l / size))
     go : (t : Bool) → getD (cond t (sets l (size * k) words) l) i 0 ≡ getD l i 0
     go true = sets-elsewhere words l (size * k) i h
     go false = refl
+
+-- ---- the reports
+pub length-reports-entered : (steps index k : ℕ) (rs : List Report) (l : List ℕ) → length (reportsEntered steps index k rs l) ≡ length l
+unfolding reportsEntered
+length-reports-entered steps index k [] l = refl
+length-reports-entered steps index k (r ∷ rs) l =
+    length-reports-entered steps index (suc k) rs (entered reportSize k (reportWords steps index r) l) ∙ length-entered reportSize k (reportWords steps index r) l
+
+-- those of one check, and then those of the next
+pub reports-append : (steps index k : ℕ) (rs more : List Report) (l : List ℕ)
+    → reportsEntered steps index k (rs ++ more) l ≡ reportsEntered steps index (k + length rs) more (reportsEntered steps index k rs l)
+unfolding reportsEntered
+reports-append steps index k [] more l = ap (λ (n : ℕ). reportsEntered steps index n more l) (let e : k ≡ k + 0 = omega arith in e)
+reports-append steps index k (r ∷ rs) more l =
+    reports-append steps index (suc k) rs more (entered reportSize k (reportWords steps index r) l)
+    ∙ ap (λ (n : ℕ). reportsEntered steps index n more (reportsEntered steps index (suc k) rs (entered reportSize k (reportWords steps index r) l)))
+    (let e : suc k + length rs ≡ k + suc (length rs) = omega arith in e)
 
 -- ---- the outputs
 pub length-outputs : (n : ℕ) (l : List ℕ) → length (outputsIn n l) ≡ n

@@ -1,6 +1,6 @@
 -- The checker's machine beside the bare one, before the first report: what every step keeps.
 use Prim.Native.Nat.{ℕ, zero, suc, _+_, _-_, _^_, _*_, _≤_, _<_}
-use mathlib.Core.Path.{_≡_, refl, sym, ap, subst, _∙_}
+use mathlib.Core.Path.{_≡_, subst}
 use mathlib.Core.Bool.{Bool, true, false, cond}
 use mathlib.Core.List.{List, [], _∷_}
 use native.Mathlib.Omega.{arith}
@@ -13,7 +13,6 @@ use Rattle.rules.specs.Bytes.{byteOf}
 use Rattle.rules.proofs.Agreement.{alike-self, alike-undefined, alike-wider}
 use Rattle.rules.proofs.ByteLaws.{alike-byte, alike-joined}
 use Rattle.image.specs.Tests.{every}
-use Rattle.image.specs.Words.{Bytes}
 use Rattle.image.specs.declared.Width.{Width}
 use Rattle.image.specs.declared.Width.the-variants.{Byte, Word}
 use Rattle.image.proofs.Tests.{both, every-below}

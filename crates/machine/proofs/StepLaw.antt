@@ -1,13 +1,13 @@
 -- The law of one step: a step of the checker that reports nothing keeps the two machines in step, and the bare machine does not trap there.
-use Prim.Native.Nat.{ℕ, zero, suc, _+_, _*_, _/_, _^_, _≤_, _<_}
+use Prim.Native.Nat.{ℕ, suc, _+_, _≤_, _<_}
 use mathlib.Core.Path.{_≡_, refl, sym, ap, subst, _∙_}
-use mathlib.Core.Bool.{Bool, true, false, cond, not, _&&_}
+use mathlib.Core.Bool.{Bool, true, false, cond, not}
 use mathlib.Core.List.{List, [], _∷_, _++_}
 use native.Mathlib.Omega.{arith}
 use lib.ListN.{length, getD, set}
-use lib.Dec.{eqb, leb, eqb·suc-zero}
+use lib.Dec.{eqb, eqb·suc-zero}
 use lib.Seq.{set-getD}
-use borrow.Author.Tests.{eqb-true, leb-false, not-false}
+use borrow.Author.Tests.{eqb-true, not-false}
 use Rattle.rules.specs.Actions.{addOf}
 use Rattle.rules.specs.Agreement.{Alike, Sound}
 use Rattle.rules.proofs.Agreement.{alike-self, alike-defined}
@@ -23,13 +23,13 @@ use Rattle.machine.specs.Machine.{Parts, parts, World, Program}
 use Rattle.machine.specs.Ranges.{allAddressable, filled}
 use Rattle.machine.specs.Instructions.{operandData, addressOf, bytesOf, blocked, wayOn, outputsOf, Output}
 use Rattle.machine.specs.Steps.{operandV, sameRegister, withRegister, cleared, loadStep, storeStep, markOf, markStep, acted, Report, report, ifUndefined, ifBlocked, reportsOf}
-use Rattle.machine.specs.Lists.{outputPlaces, outputsIn, outputsEntered}
-use Rattle.machine.specs.Runs.{isEmit, reasonAt}
+use Rattle.machine.specs.Runs.{reasonAt}
 use Rattle.machine.specs.Checker.{counted, stepped, reasonOf, nextOf}
 use Rattle.machine.specs.Bare.{BareParts, bareParts, Bare, bareActed, bareStepped, traps, orTrap, bareReason, bareNext}
 use Rattle.machine.proofs.CheckerLaws.{Goes, reason-goes}
+use Rattle.machine.proofs.StepBounds.{has-room}
 use Rattle.machine.proofs.ListLaws.{length-outputs, length-outputs-entered, outputs-entered}
-use Rattle.machine.proofs.Relation.{WordAlike, PartsAlike, InStep, beside-at, beside-set, word-past, load-alike, store-alike, mark-alike}
+use Rattle.machine.proofs.Relation.{PartsAlike, InStep, beside-at, beside-set, word-past, load-alike, store-alike, mark-alike}
 
 -- ---- no report
 none-made : {A : Type 0} (l : List A) → length l ≡ 0 → l ≡ []
@@ -152,19 +152,6 @@ kept n m (Mark addressable start size) f r e =
       way = λ index. refl;
       outputs = refl;
     }
-
--- ---- the lists
--- a step that is taken has a place for each of its outputs
-has-room : (i : Instruction) (regs : List ℕ) (places k : ℕ) → k ≤ places → isEmit i && leb places k ≡ false → k + length (outputsOf i regs) ≤ places
-unfolding isEmit outputsOf
-has-room Stop regs places k h e = omega arith
-has-room (Move d b) regs places k h e = omega arith
-has-room (Compute op d a b) regs places k h e = omega arith
-has-room (Load width d a imm) regs places k h e = omega arith
-has-room (Store width d a imm) regs places k h e = omega arith
-has-room (Jump a target) regs places k h e = omega arith
-has-room (Emit a port) regs places k h e = omega (arith, leb-false places k e)
-has-room (Mark addressable start size) regs places k h e = omega arith
 
 -- ---- the two machines
 -- the reasons that both look for are the same

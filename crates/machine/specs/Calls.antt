@@ -45,6 +45,10 @@ buffersOk m mem memV memA = eqb (length mem) m && eqb (length memV) m && eqb (le
 abbrev pub listOk : (size most : ℕ) → List ℕ → Bool
 listOk size most l = eqb (length l % size) 0 && leb (length l) (size * most)
 
+-- the three buffers and the two lists of a run
+abbrev pub sizesOk : ℕ → World → Bool
+sizesOk m w = buffersOk m (w .parts .mem) (w .parts .memV) (w .parts .memA) && listOk reportSize mostReports (w .reportList) && listOk outputSize mostOutputs (w .outputList)
+
 -- the A bytes are 0 or 1
 unfoldable pub marksOk : List ℕ → Bool
 marksOk memA = every (λ k. leb (getD memA k 0) 1) (length memA)
@@ -60,7 +64,7 @@ beginRefusal s mem memV memA = orElse (refusalOf s) (unless (buffersOk (fieldM s
 unfoldable pub runRefusal : List ℕ → World → ℕ → Refusal
 runRefusal s w budget =
     orElse (refusalOf s)
-    (unless (buffersOk (fieldM s) (w .parts .mem) (w .parts .memV) (w .parts .memA) && listOk reportSize mostReports (w .reportList) && listOk outputSize mostOutputs (w .outputList)) wrongSize
+    (unless (sizesOk (fieldM s) w) wrongSize
     (unless (leb (w .counts .steps + budget) mostSteps) tooManySteps
     (unless (marksOk (w .parts .memA)) wrongMark
     (unless (countsOk (fieldN s) (outputPlaces (w .outputList)) (w .counts)) wrongCount

@@ -1,7 +1,7 @@
 -- What both machines share of an instruction (01, the table of instructions, and Address under Shadow rules): the second operand, the address,
 -- the bytes of an access, the way on, and what is put out. What an operation does to data is `actionOf` of the crate `rules`.
-use Prim.Native.Nat.{ℕ, zero, suc, _+_}
-use mathlib.Core.Bool.{Bool, true, false, cond, not}
+use Prim.Native.Nat.{ℕ, suc}
+use mathlib.Core.Bool.{Bool, false, cond, not}
 use mathlib.Core.List.{List, [], _∷_}
 use lib.ListN.{getD}
 use lib.Dec.{eqb}

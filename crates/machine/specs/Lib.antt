@@ -8,4 +8,5 @@ pub mod Runs
 pub mod Checker
 pub mod Bare
 pub mod Calls
+pub mod Allowed
 pub mod Cases

@@ -1,5 +1,5 @@
 -- One step of the machine with its shadow (01, Shadow rules): what it does to the parts, and what it reports.
-use Prim.Native.Nat.{ℕ, zero, suc}
+use Prim.Native.Nat.{ℕ}
 use mathlib.Core.Bool.{Bool, true, false, cond}
 use mathlib.Core.List.{List, [], _∷_, _++_}
 use lib.ListN.{getD, set}

@@ -1,10 +1,10 @@
 -- A run of the checker that leaves reports made at 0, beside the run of the bare machine with the same budget.
-use Prim.Native.Nat.{ℕ, zero, suc, _+_, _≤_, _<_}
-use mathlib.Core.Path.{_≡_, refl, sym, ap, subst, _∙_}
+use Prim.Native.Nat.{ℕ, zero, suc, _≤_, _<_}
+use mathlib.Core.Path.{_≡_, refl, sym, subst}
 use native.Mathlib.Omega.{arith}
 use Rattle.image.specs.Accepted.{Fits}
 use Rattle.machine.specs.Machine.{World, Program}
-use Rattle.machine.specs.Runs.{Ended, ended, runOn}
+use Rattle.machine.specs.Runs.{Ended}
 use Rattle.machine.specs.Checker.{reasonOf, nextOf, runOf}
 use Rattle.machine.specs.Bare.{Bare, bareReason, bareNext, bareRun}
 use Rattle.machine.proofs.RunLaws.{halts, goes}

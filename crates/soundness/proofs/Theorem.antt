@@ -1,33 +1,27 @@
 -- Demand 3, proved.
-use Prim.Native.Nat.{ℕ, zero, suc, _+_, _≤_, _<_}
+use Prim.Native.Nat.{ℕ}
 use mathlib.Core.Path.{_≡_, refl, sym, ap, subst, _∙_}
-use mathlib.Core.Logic.{_≢_}
 use mathlib.Core.Bool.{Bool, true, false, cond}
 use mathlib.Core.List.{List, [], _∷_}
 use native.Mathlib.Omega.{arith}
 use lib.ListN.{length, getD}
 use lib.Dec.{eqb}
 use borrow.Author.Tests.{eqb-true, eqb-false, eq-eqb}
-use Rattle.rules.specs.Agreement.{Alike, Agree}
+use Rattle.rules.specs.Agreement.{Agree}
 use Rattle.image.specs.Words.{Bytes}
-use Rattle.image.specs.Format.{fieldM, fieldN, codePart}
-use Rattle.image.specs.Accepted.{Accepted, Fits}
-use Rattle.image.specs.declared.Instruction.{Instruction}
-use Rattle.image.specs.declared.Decoded.{Decoded}
-use Rattle.image.specs.declared.Decoded.the-variants.{Valid}
-use Rattle.image.specs.Rows.{decodeAt}
-use Rattle.image.proofs.DecodedFits.{decodes}
-use Rattle.machine.specs.Machine.{World, Program, instructionOf, programOf}
-use Rattle.machine.specs.Beginning.{Registers, Memory, undefinedByte, frameRegister}
-use Rattle.machine.specs.Lists.{outputPlaces, outputsIn}
-use Rattle.machine.specs.Runs.{trapped, Ended}
+use Rattle.image.specs.Format.{fieldM}
+use Rattle.image.specs.Accepted.{Accepted}
+use Rattle.machine.specs.Machine.{World, programOf}
+use Rattle.machine.specs.Beginning.{Memory, undefinedByte}
+use Rattle.machine.specs.Lists.{outputPlaces}
 use Rattle.machine.specs.Checker.{runOf}
 use Rattle.machine.specs.Bare.{Bare, bareBegun, bareRun}
-use Rattle.machine.specs.Calls.{Began, beginAnswer, Ran, runAnswer}
-use Rattle.machine.proofs.CheckerLaws.{reports-grow, EndReason, run-reason}
+use Rattle.machine.specs.Calls.{Began, Ran, runAnswer}
+use Rattle.machine.proofs.ProgramLaws.{program-fits}
+use Rattle.machine.proofs.CheckerLaws.{reports-grow, run-reason}
 use Rattle.machine.proofs.ListLaws.{length-outputs}
-use Rattle.machine.proofs.CallLaws.{BeginAccepted, begin-accepted, run-accepted, run-refused}
-use Rattle.machine.proofs.Relation.{InStep, seenV, beside-at, word-past, byte-past}
+use Rattle.machine.proofs.CallLaws.{begin-accepted, run-accepted, run-refused}
+use Rattle.machine.proofs.Relation.{InStep, beside-at, word-past, byte-past}
 use Rattle.machine.proofs.BeginningLaw.{begins-in-step}
 use Rattle.soundness.specs.Series.{startedWith, checkerAfter, acceptedBudgets, bareAfter}
 use Rattle.soundness.specs.Claim.{Together, Claim, Demand3}
@@ -50,18 +44,11 @@ together {places} {w} {c} r =
 abbrev Quiet : ℕ → World → Bare → Type 0
 Quiet places w c = w .counts .reports ≡ 0 → InStep places w c
 
--- the fields of the instructions of an accepted image
-fits : (s : List ℕ) → Bytes s → Accepted s → (i : ℕ) → i < programOf s .count → Fits (programOf s .count) (fieldM s) (programOf s .at i)
-unfolding programOf
-fits s b a i l =
-    let found = decodes s b a i l in
-    subst (λ (d : Decoded). Fits (fieldN s) (fieldM s) (instructionOf d)) (sym (found .1)) (found .2)
-
 module _ (s : List ℕ) (b : Bytes s) (a : Accepted s) where
   run-quiet : (left : ℕ) {places : ℕ} {w : World} {c : Bare} → Quiet places w c → runOf (programOf s) left w .state .counts .reports ≡ 0
       → RunKept places (runOf (programOf s) left w) (bareRun (programOf s) places left c)
   run-quiet left {places} {w} {c} q none =
-      run-kept (programOf s) (fieldM s) (fits s b a) left (q (let z : w .counts .reports ≡ 0 = omega (arith, reports-grow (programOf s) left w, none) in z)) none
+      run-kept (programOf s) (fieldM s) (program-fits s b a) left (q (let z : w .counts .reports ≡ 0 = omega (arith, reports-grow (programOf s) left w, none) in z)) none
 
   -- what a run of a series leaves
   world-accepted : (w : World) (budget : ℕ) → runAnswer s w budget .refusal .number ≡ 0 → runAnswer s w budget .world ≡ runOf (programOf s) budget w .state

@@ -6,7 +6,6 @@ use lib.ListN.{replicate, set}
 use Rattle.image.specs.Format.{registers, fieldM}
 use Rattle.machine.specs.Machine.{World, programOf}
 use Rattle.machine.specs.Beginning.{frameRegister}
-use Rattle.machine.specs.Lists.{outputPlaces}
 use Rattle.machine.specs.Bare.{Bare, bareBegun}
 use Rattle.machine.specs.Calls.{Began, beginAnswer}
 use Rattle.soundness.specs.Series.{startedWith, checkerAfter, acceptedBudgets, bareAfter}

@@ -6,7 +6,7 @@ use mathlib.Core.List.{List, [], _∷_}
 use lib.Dec.{eqb}
 use Rattle.machine.specs.Machine.{World, Program}
 use Rattle.machine.specs.Bare.{Bare, bareRun}
-use Rattle.machine.specs.Calls.{Began, beginAnswer, runAnswer}
+use Rattle.machine.specs.Calls.{Began, runAnswer}
 
 -- the checker after a beginning, with the lists that the first run gets
 abbrev pub startedWith : (reports outputs : List ℕ) → Began → World
