@@ -1,5 +1,5 @@
 -- Laws of the checker's run: what it means that no reason to stop holds; and reports never go down.
-use Prim.Native.Nat.{ℕ, zero, suc, _≤_, _<_}
+use Prim.Native.Nat.{ℕ, zero, suc, _+_, _≤_, _<_}
 use mathlib.Core.Path.{_≡_, refl, sym, ap, subst}
 use mathlib.Core.Bool.{Bool, true, false, cond, _&&_}
 use native.Mathlib.Omega.{arith}
@@ -8,9 +8,9 @@ use lib.Dec.{eqb, leb, eqb·suc-zero}
 use borrow.Author.Tests.{leb-false}
 use Rattle.machine.specs.Machine.{World, Program}
 use Rattle.machine.specs.Lists.{outputPlaces}
-use Rattle.machine.specs.Runs.{noPlace, isStop, isEmit, reasonAt, Ended, runOn}
+use Rattle.machine.specs.Runs.{goesOn, stopped, pastEnd, noBudget, noPlace, isStop, isEmit, reasonAt, Ended, runOn}
 use Rattle.machine.specs.Checker.{counted, stepped, reasonOf, nextOf, runOf}
-use Rattle.machine.proofs.RunLaws.{Steady, halts, goes}
+use Rattle.machine.proofs.RunLaws.{Steady, halts, goes, one-more, stays, continued}
 
 -- ---- no reason to stop
 pub record Goes (program : Program) (places left index outputs : ℕ) : Type 0 where
@@ -49,6 +49,35 @@ reason-steady program places j k index outputs = rw (eqb·suc-zero j, eqb·suc-z
 pub checker-steady : (program : Program) → Steady (reasonOf program) (nextOf program)
 unfolding reasonOf
 checker-steady program j k w = reason-steady program (outputPlaces (w .outputList)) j k (w .counts .index) (w .counts .outputs)
+
+-- ---- one step more
+reason-firm : (program : Program) (places j r index outputs : ℕ) → reasonAt program places (suc j) index outputs ≡ suc r → reasonAt program places 0 index outputs ≡ suc r
+unfolding reasonAt
+reason-firm program places j r index outputs e =
+    go (leb (program .count) index) (isStop (program .at index)) (isEmit (program .at index) && leb places outputs) (rw (eqb·suc-zero j) at e)
+  where
+    go : (end stop place : Bool) → cond end pastEnd (cond stop stopped (cond place noPlace goesOn)) ≡ suc r → cond end pastEnd (cond stop stopped (cond place noPlace noBudget)) ≡ suc r
+    go true stop place h = h
+    go false true place h = h
+    go false false true h = h
+    go false false false h = absurd (omega arith)
+
+checker-firm : (program : Program) (j r : ℕ) (w : World) → reasonOf program (suc j) w ≡ suc r → reasonOf program 0 w ≡ suc r
+unfolding reasonOf
+checker-firm program j r w e = reason-firm program (outputPlaces (w .outputList)) j r (w .counts .index) (w .counts .outputs) e
+
+module _ (program : Program) where
+  -- budget j + 1 is one step more, where nothing stops the run after j steps
+  pub one-step-more : (j : ℕ) (w : World) → reasonOf program 1 (runOf program j w .state) ≡ 0 → runOf program (suc j) w .state ≡ nextOf program (runOf program j w .state)
+  one-step-more = one-more (reasonOf program) (nextOf program) (checker-steady program)
+
+  -- a run that has stopped stays
+  pub stopped-stays : (j r : ℕ) (w : World) → reasonOf program 1 (runOf program j w .state) ≡ suc r → runOf program (suc j) w .state ≡ runOf program j w .state
+  stopped-stays = stays (reasonOf program) (nextOf program) (checker-steady program)
+
+  -- a run that is continued is one longer run
+  pub run-continued : (j k : ℕ) (w : World) → runOf program (j + k) w ≡ runOf program k (runOf program j w .state)
+  run-continued = continued (reasonOf program) (nextOf program) (checker-steady program) (checker-firm program)
 
 -- ---- reports never go down
 step-reports : (program : Program) (w : World) → w .counts .reports ≤ nextOf program w .counts .reports

@@ -1,6 +1,7 @@
 pub mod ProgramLaws
 pub mod RunLaws
 pub mod CheckerLaws
+pub mod BareLaws
 pub mod Places
 pub mod ListLaws
 pub mod StepBounds

@@ -62,3 +62,20 @@ module _ {State : Type 0} (reason : ℕ → State → ℕ) (next : State → Sta
 
     pub stays : (j r : ℕ) (s : State) → reason 1 (after j s) ≡ suc r → after (suc j) s ≡ after j s
     stays j r s e = more j s ∙ left-by (halts 1 r (after j s) e)
+
+    -- where a reason other than the budget holds whatever is left, a continued run is one longer run in its reason, too
+    module _ (firm : (j r : ℕ) (s : State) → reason (suc j) s ≡ suc r → reason 0 s ≡ suc r) where
+      same-end : (j k r : ℕ) (s : State) → reason (suc j) s ≡ suc r → runOn reason next k s ≡ ended (suc r) s
+      same-end j zero r s e = halts zero r s (firm j r s e)
+      same-end j (suc k) r s e = halts (suc k) r s (steady k j s ∙ e)
+
+      pub continued : (j k : ℕ) (s : State) → runOn reason next (j + k) s ≡ runOn reason next k (after j s)
+      unfolding runOn
+      continued zero k s = ap (λ (n : ℕ). runOn reason next n s) (let e : 0 + k ≡ k = omega arith in e)
+      continued (suc j) k s = go (continued j k) (reason (suc j) s) refl
+        where
+          go : ((t : State) → runOn reason next (j + k) t ≡ runOn reason next k (after j t)) → (r : ℕ) → reason (suc j) s ≡ r
+              → runOn reason next (suc j + k) s ≡ runOn reason next k (after (suc j) s)
+          go ih zero e =
+              ap (λ (n : ℕ). runOn reason next n s) (suc-add j k) ∙ goes (j + k) s (steady (j + k) j s ∙ e) ∙ ih (next s) ∙ ap (runOn reason next k) (sym (left-by (goes j s e)))
+          go ih (suc r) e = same-end j (suc j + k) r s e ∙ sym (same-end j k r s e) ∙ ap (runOn reason next k) (sym (left-by (halts (suc j) r s e)))

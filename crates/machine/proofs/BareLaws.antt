@@ -1,0 +1,29 @@
+-- Laws of the bare machine's run: a budget of one more is one step more; where it traps, it ends with the state before that step.
+use Prim.Native.Nat.{ℕ, zero, suc}
+use mathlib.Core.Path.{_≡_, refl, ap}
+use mathlib.Core.Bool.{Bool, true, false}
+use lib.ListN.{length}
+use Rattle.machine.specs.Machine.{Program}
+use Rattle.machine.specs.Runs.{trapped, reasonAt, ended}
+use Rattle.machine.specs.Bare.{Bare, traps, orTrap, bareReason, bareNext, bareRun}
+use Rattle.machine.proofs.RunLaws.{Steady, halts, one-more, stays}
+use Rattle.machine.proofs.CheckerLaws.{reason-steady}
+
+module _ (program : Program) (places : ℕ) where
+  pub bare-steady : Steady (bareReason program places) (bareNext program)
+  unfolding bareReason
+  bare-steady j k c = ap (orTrap (traps program c)) (reason-steady program places j k (c .index) (length (c .outputs)))
+
+  pub bare-one-more : (j : ℕ) (c : Bare) → bareReason program places 1 (bareRun program places j c .state) ≡ 0
+      → bareRun program places (suc j) c .state ≡ bareNext program (bareRun program places j c .state)
+  bare-one-more = one-more (bareReason program places) (bareNext program) bare-steady
+
+  pub bare-stays : (j r : ℕ) (c : Bare) → bareReason program places 1 (bareRun program places j c .state) ≡ suc r
+      → bareRun program places (suc j) c .state ≡ bareRun program places j c .state
+  bare-stays = stays (bareReason program places) (bareNext program) bare-steady
+
+  -- none of the reasons 2, 1, 4 and 3 holds, and some byte of the next access is unaddressable
+  pub bare-traps : (left : ℕ) (c : Bare) → reasonAt program places left (c .index) (length (c .outputs)) ≡ 0 → traps program c ≡ true
+      → bareRun program places left c ≡ ended trapped c
+  unfolding bareReason orTrap
+  bare-traps left c e t = halts (bareReason program places) (bareNext program) left 5 c (rw (t, e))
