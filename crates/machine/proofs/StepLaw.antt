@@ -22,7 +22,7 @@ use Rattle.image.proofs.Tests.{apart}
 use Rattle.machine.specs.Machine.{Parts, parts, World, Program}
 use Rattle.machine.specs.Ranges.{allAddressable, filled}
 use Rattle.machine.specs.Instructions.{operandData, addressOf, bytesOf, blocked, wayOn, outputsOf, Output}
-use Rattle.machine.specs.Steps.{operandV, sameRegister, withRegister, cleared, loadStep, storeStep, markOf, markStep, acted, Report, report, ifUndefined, ifBlocked, reportsOf}
+use Rattle.machine.specs.Steps.{operandV, sameRegister, withRegister, cleared, loadStep, storeStep, markOf, markStep, acted, undefinedAddress, unaddressableLoad, unaddressableStore, Report, report, ifUndefined, ifBlocked, reportsOf}
 use Rattle.machine.specs.Runs.{reasonAt}
 use Rattle.machine.specs.Checker.{counted, stepped, reasonOf, nextOf}
 use Rattle.machine.specs.Bare.{BareParts, bareParts, Bare, bareActed, bareStepped, traps, orTrap, bareReason, bareNext}
@@ -81,6 +81,13 @@ module _ {p : Parts} {q : BareParts} (r : PartsAlike p q) where
   with-register d {x} {v} {y} a = record { regs = beside-set (r .regs) d v v x y a; mem = r .mem; marks = r .marks }
 
   -- an access that reports nothing: V of a is 0, and every byte is addressable
+  quiet-access : (width : Width) (a imm kind : ℕ)
+      → ifUndefined undefinedAddress (getD (p .regsV) a 0) ++ ifBlocked kind (addressOf (p .regs) a imm) (not (allAddressable (p .memA) (addressOf (p .regs) a imm) (bytesOf width))) ≡ []
+      → (getD (p .regsV) a 0 ≡ 0) × (allAddressable (p .memA) (addressOf (p .regs) a imm) (bytesOf width) ≡ true)
+  quiet-access width a imm kind e =
+      let none = both-none (ifUndefined undefinedAddress (getD (p .regsV) a 0)) _ e in
+      (all-defined undefinedAddress (getD (p .regsV) a 0) (none .0), not-false _ (not-blocked kind (addressOf (p .regs) a imm) _ (none .1)))
+
   module _ (width : Width) (a imm : ℕ) (z : getD (p .regsV) a 0 ≡ 0) (h : allAddressable (p .memA) (addressOf (p .regs) a imm) (bytesOf width) ≡ true) where
     address-same : addressOf (q .regs) a imm ≡ addressOf (p .regs) a imm
     address-same = ap (λ (x : ℕ). addOf x imm) (register-same a z)
@@ -124,16 +131,12 @@ kept n m (Compute op d a b) {p} {q} f r e =
       way = λ index. refl;
       outputs = refl;
     }
-kept n m (Load width d a imm) {p} {q} f r e =
-    let none = both-none (ifUndefined _ (getD (p .regsV) a 0)) _ e in
-    let z : getD (p .regsV) a 0 ≡ 0 = all-defined _ (getD (p .regsV) a 0) (none .0) in
-    let h : allAddressable (p .memA) (addressOf (p .regs) a imm) (bytesOf width) ≡ true = not-false _ (not-blocked _ (addressOf (p .regs) a imm) _ (none .1)) in
-    record { after = load-step r width a imm z h d; free = free r width a imm z h; way = λ index. refl; outputs = refl }
-kept n m (Store width d a imm) {p} {q} f r e =
-    let none = both-none (ifUndefined _ (getD (p .regsV) a 0)) _ e in
-    let z : getD (p .regsV) a 0 ≡ 0 = all-defined _ (getD (p .regsV) a 0) (none .0) in
-    let h : allAddressable (p .memA) (addressOf (p .regs) a imm) (bytesOf width) ≡ true = not-false _ (not-blocked _ (addressOf (p .regs) a imm) _ (none .1)) in
-    record { after = store-step r width a imm z h d; free = free r width a imm z h; way = λ index. refl; outputs = refl }
+kept n m (Load width d a imm) f r e =
+    let q = quiet-access r width a imm unaddressableLoad e in
+    record { after = load-step r width a imm (q .0) (q .1) d; free = free r width a imm (q .0) (q .1); way = λ index. refl; outputs = refl }
+kept n m (Store width d a imm) f r e =
+    let q = quiet-access r width a imm unaddressableStore e in
+    record { after = store-step r width a imm (q .0) (q .1) d; free = free r width a imm (q .0) (q .1); way = λ index. refl; outputs = refl }
 kept n m (Jump a target) {p} f r e =
     let z : getD (p .regsV) a 0 ≡ 0 = all-defined _ (getD (p .regsV) a 0) e in
     record { after = rw (cleared-same a p z) r; free = refl; way = λ index. rw (register-same r a z); outputs = refl }
