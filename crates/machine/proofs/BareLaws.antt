@@ -1,7 +1,7 @@
 -- Laws of the bare machine's run: a budget of one more is one step more; where it traps, it ends with the state before that step.
-use Prim.Native.Nat.{ℕ, zero, suc}
-use mathlib.Core.Path.{_≡_, refl, ap}
-use mathlib.Core.Bool.{Bool, true, false}
+use Prim.Native.Nat.{ℕ, suc}
+use mathlib.Core.Path.{_≡_, ap}
+use mathlib.Core.Bool.{true}
 use lib.ListN.{length}
 use Rattle.machine.specs.Machine.{Program}
 use Rattle.machine.specs.Runs.{trapped, reasonAt, ended}

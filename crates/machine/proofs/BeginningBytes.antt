@@ -14,8 +14,9 @@ use Rattle.image.specs.Format.{fieldM, fieldR}
 use Rattle.image.specs.Regions.{filledKind, undefinedKind, regionAt, endOf, filledSum}
 use Rattle.image.specs.Accepted.{Accepted}
 use Rattle.image.proofs.AcceptedImage.{regions-apart}
+use Rattle.machine.specs.Machine.{undefinedByte, definedByte, addressableMark, unaddressableMark}
 use Rattle.machine.specs.Ranges.{written, filled}
-use Rattle.machine.specs.Beginning.{undefinedByte, definedByte, addressableMark, unaddressableMark, isFilled, layData, layV, layA, laid, regionsOf, dataOf, begunMemory, begunV, begunA}
+use Rattle.machine.specs.Beginning.{isFilled, layData, layV, layA, laid, regionsOf, dataOf, begunMemory, begunV, begunA}
 use Rattle.machine.proofs.Places.{length-written, written-there, written-elsewhere}
 
 -- ---- a place of what was laid

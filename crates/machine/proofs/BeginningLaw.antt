@@ -13,9 +13,9 @@ use Rattle.image.specs.Format.{registers, dataAt, fieldM, fieldN, fieldR, field
 use Rattle.image.specs.Regions.{regionAt, filledSum}
 use Rattle.image.specs.declared.Region.{Region}
 use Rattle.image.proofs.Parts.{bytes-part}
-use Rattle.machine.specs.Machine.{zeroCounts}
+use Rattle.machine.specs.Machine.{undefinedByte, definedByte, addressableMark, unaddressableMark, zeroCounts}
 use Rattle.machine.specs.Ranges.{written, filled}
-use Rattle.machine.specs.Beginning.{Registers, Memory, undefinedByte, definedByte, addressableMark, unaddressableMark, isFilled, layData, layV, layA, laid, regionsOf, dataOf, begunMemory, begunV, begunA, frameRegister, begunRegsV, begunParts}
+use Rattle.machine.specs.Beginning.{Registers, Memory, isFilled, layData, layV, layA, laid, regionsOf, dataOf, begunMemory, begunV, begunA, frameRegister, begunRegsV, begunParts}
 use Rattle.machine.specs.Lists.{outputPlaces, outputsIn}
 use Rattle.machine.specs.Bare.{bareBegun}
 use Rattle.machine.proofs.Relation.{Beside, WordAlike, ByteAlike, InStep, beside-shadow, beside-all, byte-undefined, mark-alike, data-alike}

@@ -13,9 +13,9 @@ use Rattle.image.specs.Accepted.{Accepted, Fits}
 use Rattle.image.specs.Refusals.{accepted}
 use Rattle.image.specs.declared.Instruction.{Instruction}
 use Rattle.image.specs.declared.Instruction.the-variants.{Stop, Move, Compute, Load, Store, Jump, Emit, Mark}
-use Rattle.machine.specs.Machine.{Parts, zeroCounts, World, Program, programOf}
+use Rattle.machine.specs.Machine.{addressableMark, unaddressableMark, Parts, zeroCounts, World, Program, programOf}
 use Rattle.machine.specs.Ranges.{written, filled}
-use Rattle.machine.specs.Beginning.{addressableMark, unaddressableMark, layA, laid, regionsOf, begunA, begunParts}
+use Rattle.machine.specs.Beginning.{layA, laid, regionsOf, begunA, begunParts}
 use Rattle.machine.specs.Instructions.{outputsOf}
 use Rattle.machine.specs.Steps.{withRegister, cleared, loadStep, storeStep, markOf, markStep, acted, reportsOf}
 use Rattle.machine.specs.Lists.{reportSize, outputSize, outputPlaces}

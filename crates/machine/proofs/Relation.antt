@@ -16,9 +16,8 @@ use Rattle.image.specs.Tests.{every}
 use Rattle.image.specs.declared.Width.{Width}
 use Rattle.image.specs.declared.Width.the-variants.{Byte, Word}
 use Rattle.image.proofs.Tests.{both, every-below}
-use Rattle.machine.specs.Machine.{Parts, World}
+use Rattle.machine.specs.Machine.{undefinedByte, definedByte, addressableMark, Parts, World}
 use Rattle.machine.specs.Ranges.{isAddressable, allAddressable, loaded, loadedWhere, written, filled, stored, storedWhere}
-use Rattle.machine.specs.Beginning.{undefinedByte, definedByte, addressableMark}
 use Rattle.machine.specs.Instructions.{bytesOf}
 use Rattle.machine.specs.Lists.{outputPlaces, outputsIn}
 use Rattle.machine.specs.Bare.{BareParts, Bare}
@@ -69,7 +68,7 @@ WordAlike a v x y = Alike 32 v x y
 
 -- V as a program can come to see it: an unaddressable byte counts as undefined
 abbrev pub seenV : (a v : ℕ) → ℕ
-seenV a v = cond (eqb a 1) v undefinedByte
+seenV a v = cond (eqb a addressableMark) v undefinedByte
 
 -- a byte's A and V, and its data on both machines
 abbrev pub ByteAlike : (a v x y : ℕ) → Type 0

@@ -1,6 +1,6 @@
 -- Beginning (01, Beginning): what an accepted image makes of registers, memory, V bits and A bits.
 -- Regions are laid one after the other; `begun-filled`, `begun-undefined` and `begun-outside` in proofs/BeginningBytes.antt say what each byte gets.
-use Prim.Native.Nat.{ℕ, zero, suc, _+_, _-_, _^_, _<_}
+use Prim.Native.Nat.{ℕ, zero, suc, _+_, _^_, _<_}
 use mathlib.Core.Path.{_≡_}
 use mathlib.Core.Bool.{Bool, cond}
 use mathlib.Core.List.{List}
@@ -11,7 +11,7 @@ use Rattle.image.specs.Words.{Bytes}
 use Rattle.image.specs.Format.{registers, fieldM, fieldN, fieldR, fieldD, regionPart, dataPart}
 use Rattle.image.specs.Regions.{filledKind, regionAt, filledSum}
 use Rattle.image.specs.declared.Region.{Region}
-use Rattle.machine.specs.Machine.{Parts, parts}
+use Rattle.machine.specs.Machine.{undefinedByte, definedByte, addressableMark, unaddressableMark, Parts, parts}
 use Rattle.machine.specs.Ranges.{written, filled}
 
 -- what is handed in: sixteen words for the registers, M bytes for the memory
@@ -22,20 +22,6 @@ pub record Registers (regs : List ℕ) : Type 0 where
 pub record Memory (m : ℕ) (mem : List ℕ) : Type 0 where
   pub size : length mem ≡ m
   pub bytes : Bytes mem
-
--- V of a byte that is undefined, and of one that is defined
-abbrev pub undefinedByte : ℕ
-undefinedByte = 2 ^ 8 - 1
-
-abbrev pub definedByte : ℕ
-definedByte = 0
-
--- A of an addressable byte, and of an unaddressable one
-abbrev pub addressableMark : ℕ
-addressableMark = 1
-
-abbrev pub unaddressableMark : ℕ
-unaddressableMark = 0
 
 abbrev pub isFilled : Region → Bool
 isFilled region = eqb (region .kind) filledKind

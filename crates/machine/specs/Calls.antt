@@ -35,7 +35,7 @@ abbrev pub mostOutputs : ℕ
 mostOutputs = 256
 
 abbrev pub mostSteps : ℕ
-mostSteps = 1000000
+mostSteps = 1_000_000
 
 -- ---- the tests
 abbrev pub buffersOk : ℕ → (mem memV memA : List ℕ) → Bool

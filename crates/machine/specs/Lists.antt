@@ -14,10 +14,7 @@ reportSize = 4
 abbrev pub outputSize : ℕ
 outputSize = 2
 
--- how many places a list has
-abbrev pub reportPlaces : List ℕ → ℕ
-reportPlaces l = length l / reportSize
-
+-- how many places a list of outputs has
 abbrev pub outputPlaces : List ℕ → ℕ
 outputPlaces l = length l / outputSize
 

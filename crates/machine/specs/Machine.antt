@@ -1,6 +1,6 @@
 -- The machine (01, The machine): its parts with their shadow, its counts and its lists; and the program that it runs.
 -- Words and bytes are natural numbers, and what is lent to the code is a list of them.
-use Prim.Native.Nat.{ℕ}
+use Prim.Native.Nat.{ℕ, _-_, _^_}
 use mathlib.Core.List.{List}
 use Rattle.image.specs.Format.{fieldM, fieldN, codePart}
 use Rattle.image.specs.Rows.{decodeAt}
@@ -8,6 +8,20 @@ use Rattle.image.specs.declared.Decoded.{Decoded}
 use Rattle.image.specs.declared.Decoded.the-variants.{Valid, Fault}
 use Rattle.image.specs.declared.Instruction.{Instruction}
 use Rattle.image.specs.declared.Instruction.the-variants.{Stop}
+
+-- V of a byte: a bit is 1 where it is undefined, 0 where it is defined
+abbrev pub undefinedByte : ℕ
+undefinedByte = 2 ^ 8 - 1
+
+abbrev pub definedByte : ℕ
+definedByte = 0
+
+-- A of an addressable byte (01: open), and of an unaddressable one (closed)
+abbrev pub addressableMark : ℕ
+addressableMark = 1
+
+abbrev pub unaddressableMark : ℕ
+unaddressableMark = 0
 
 -- sixteen registers and M bytes of memory; beside each register a V word, beside each byte a V byte and an A byte
 pub record Parts : Type 0 where

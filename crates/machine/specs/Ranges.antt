@@ -7,10 +7,11 @@ use lib.ListN.{getD, set}
 use lib.Dec.{eqb}
 use Rattle.rules.specs.Bytes.{byteOf, joined}
 use Rattle.image.specs.Tests.{every}
+use Rattle.machine.specs.Machine.{addressableMark}
 
--- The byte at an address is addressable (01: open) if its A byte is 1. There are M A bytes, so that one at M or beyond is not.
+-- The byte at an address is addressable if its A byte says so. There are M A bytes, so that one at M or beyond is not.
 abbrev pub isAddressable : List ℕ → ℕ → Bool
-isAddressable A i = eqb (getD A i 0) 1
+isAddressable A i = eqb (getD A i 0) addressableMark
 
 -- all n bytes from an address on
 abbrev pub allAddressable : List ℕ → (at n : ℕ) → Bool

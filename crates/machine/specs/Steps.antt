@@ -11,9 +11,8 @@ use Rattle.image.specs.declared.Operand.{Operand}
 use Rattle.image.specs.declared.Operand.the-variants.{Register, Literal}
 use Rattle.image.specs.declared.Instruction.{Instruction}
 use Rattle.image.specs.declared.Instruction.the-variants.{Stop, Move, Compute, Load, Store, Jump, Emit, Mark}
-use Rattle.machine.specs.Machine.{Parts, parts}
+use Rattle.machine.specs.Machine.{undefinedByte, addressableMark, unaddressableMark, Parts, parts}
 use Rattle.machine.specs.Ranges.{loadedWhere, filled, storedWhere}
-use Rattle.machine.specs.Beginning.{undefinedByte, addressableMark, unaddressableMark}
 use Rattle.machine.specs.Instructions.{operandData, addressOf, bytesOf, blocked}
 
 -- V of B: a register's, or 0, as a literal is fully defined

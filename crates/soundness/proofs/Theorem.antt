@@ -11,8 +11,8 @@ use Rattle.rules.specs.Agreement.{Agree}
 use Rattle.image.specs.Words.{Bytes}
 use Rattle.image.specs.Format.{fieldM}
 use Rattle.image.specs.Accepted.{Accepted}
-use Rattle.machine.specs.Machine.{World, programOf}
-use Rattle.machine.specs.Beginning.{Memory, undefinedByte}
+use Rattle.machine.specs.Machine.{undefinedByte, World, programOf}
+use Rattle.machine.specs.Beginning.{Memory}
 use Rattle.machine.specs.Lists.{outputPlaces}
 use Rattle.machine.specs.Checker.{runOf}
 use Rattle.machine.specs.Bare.{Bare, bareBegun, bareRun}
