@@ -97,6 +97,27 @@ reports-grow program (suc left) w = go (reports-grow program left (nextOf progra
     go ih zero e = omega (arith, step-reports program w, ih, reports (goes (reasonOf program) (nextOf program) left w e))
     go ih (suc r) e = omega (arith, reports (halts (reasonOf program) (nextOf program) (suc left) r w e))
 
+-- ---- a run takes no more steps than its budget
+step-counted : (program : Program) (w : World) → nextOf program w .counts .steps ≡ suc (w .counts .steps)
+unfolding nextOf stepped counted
+step-counted program w = refl
+
+pub steps-within : (program : Program) (left : ℕ) (w : World) → runOf program left w .state .counts .steps ≤ w .counts .steps + left
+unfolding runOn
+steps-within program zero w = omega arith
+steps-within program (suc left) w = go (steps-within program left (nextOf program w)) (reasonOf program (suc left) w) refl
+  where
+    steps : {x y : Ended World} → x ≡ y → x .state .counts .steps ≡ y .state .counts .steps
+    steps e = ap (λ (x : Ended World). x .state .counts .steps) e
+
+    one : nextOf program w .counts .steps ≡ suc (w .counts .steps)
+    one = step-counted program w
+
+    go : runOf program left (nextOf program w) .state .counts .steps ≤ nextOf program w .counts .steps + left
+        → (r : ℕ) → reasonOf program (suc left) w ≡ r → runOf program (suc left) w .state .counts .steps ≤ w .counts .steps + suc left
+    go ih zero e = omega (arith, one, ih, steps (goes (reasonOf program) (nextOf program) left w e))
+    go ih (suc r) e = omega (arith, steps (halts (reasonOf program) (nextOf program) (suc left) r w e))
+
 -- ---- a run ends with one of the four reasons
 cond-most : (t : Bool) (a b n : ℕ) → a ≤ n → b ≤ n → cond t a b ≤ n
 cond-most true a b n p q = p

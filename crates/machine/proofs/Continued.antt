@@ -11,6 +11,7 @@ use Rattle.image.specs.Words.{Bytes}
 use Rattle.image.specs.Format.{fieldM, fieldN, fieldR}
 use Rattle.image.specs.Accepted.{Accepted, Fits}
 use Rattle.image.specs.Refusals.{accepted}
+use Rattle.image.specs.declared.Refusal.{Refusal}
 use Rattle.image.specs.declared.Instruction.{Instruction}
 use Rattle.image.specs.declared.Instruction.the-variants.{Stop, Move, Compute, Load, Store, Jump, Emit, Mark}
 use Rattle.machine.specs.Machine.{addressableMark, unaddressableMark, Parts, zeroCounts, World, Program, programOf}
@@ -21,15 +22,15 @@ use Rattle.machine.specs.Steps.{withRegister, cleared, loadStep, storeSt
 use Rattle.machine.specs.Lists.{reportSize, outputSize, outputPlaces}
 use Rattle.machine.specs.Runs.{Ended, runOn}
 use Rattle.machine.specs.Checker.{counted, stepped, reasonOf, nextOf, runOf}
-use Rattle.machine.specs.Calls.{mostReports, mostOutputs, mostSteps, runRefusal, beginAnswer, Ran, runAnswer}
+use Rattle.machine.specs.Calls.{answered, mostReports, mostOutputs, mostSteps, runRefusal, beginAnswer, Ran, runAnswer}
 use Rattle.machine.specs.Allowed.{ListFits, Marks, Runnable}
 use Rattle.machine.proofs.ProgramLaws.{program-fits}
 use Rattle.machine.proofs.RunLaws.{halts, goes}
-use Rattle.machine.proofs.CheckerLaws.{Goes, reason-goes}
+use Rattle.machine.proofs.CheckerLaws.{Goes, reason-goes, run-continued, steps-within}
 use Rattle.machine.proofs.ListLaws.{length-reports-entered, length-outputs-entered}
 use Rattle.machine.proofs.StepBounds.{way-within, has-room, few-reports, SameLengths, same-lengths}
 use Rattle.machine.proofs.BeginningBytes.{length-memory, length-V, length-A}
-use Rattle.machine.proofs.CallLaws.{begin-accepted, accepted-refusal, run-accepted}
+use Rattle.machine.proofs.CallLaws.{begin-accepted, accepted-refusal, run-accepted, not-refused}
 use Rattle.machine.proofs.AllowedRuns.{allowed-run, run-allowed}
 
 -- ---- A bytes
@@ -109,6 +110,25 @@ run-again s b w budget again e h =
   where
     kept : Accepted s → Runnable (fieldN s) (fieldM s) w → Runnable (fieldN s) (fieldM s) (runOf (programOf s) budget w .state)
     kept a r = run-runnable (programOf s) (fieldM s) (program-fits s b a) budget w r
+
+-- a longer run, made as two: the second answers what the longer one does
+pub answers-continued : (s : List ℕ) → Bytes s → (w : World) (j k : ℕ) → runAnswer s w (j + k) .refusal .number ≡ 0
+    → runAnswer s (runAnswer s w j .world) k ≡ runAnswer s w (j + k)
+answers-continued s b w j k e =
+    let a = allowed-run s w (j + k) (accepted-refusal s w (j + k) e) in
+    let program = programOf s in
+    let first : runRefusal s w j ≡ accepted = run-allowed s w j (record { image = a .image; runnable = a .runnable; within = omega (arith, a .within) }) in
+    let answer : runAnswer s w j ≡ answered (runOf program j w) = not-refused s w j (number first) in
+    let left : runAnswer s w j .world ≡ runOf program j w .state = ap (λ (r : Ran). r .world) answer in
+    let few : runAnswer s w j .world .counts .steps ≤ w .counts .steps + j = subst (λ (v : World). v .counts .steps ≤ w .counts .steps + j) (sym left) (steps-within program j w) in
+    let second : runRefusal s (runAnswer s w j .world) k ≡ accepted = run-again s b w j k (ap (λ (r : Ran). r .refusal .number) answer) (omega (arith, few, a .within)) in
+    not-refused s (runAnswer s w j .world) k (number second)
+    ∙ ap (λ (v : World). answered (runOf program k v)) left
+    ∙ ap answered (sym (run-continued program j k w))
+    ∙ sym (run-accepted s w (j + k) e)
+  where
+    number : {r : Refusal} → r ≡ accepted → r .number ≡ 0
+    number q = ap (λ (r : Refusal). r .number) q
 
 -- and so it is with an accepted beginning, if the lists fit
 zero-marks : (n : ℕ) → Marks (replicate n unaddressableMark)

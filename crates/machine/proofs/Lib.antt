@@ -13,4 +13,5 @@ pub mod CallLaws
 pub mod AllowedRuns
 pub mod Continued
 pub mod Cases
+pub mod CallCases
 pub mod Example

@@ -12,6 +12,7 @@ use Rattle.image.specs.declared.Refusal.{Refusal}
 use Rattle.machine.specs.Machine.{Parts, parts, Counts, zeroCounts, World, programOf}
 use Rattle.machine.specs.Beginning.{begunParts}
 use Rattle.machine.specs.Lists.{reportSize, outputSize, outputPlaces}
+use Rattle.machine.specs.Runs.{Ended}
 use Rattle.machine.specs.Checker.{runOf}
 
 -- the numbers, in 01's order
@@ -94,9 +95,12 @@ pub record Ran : Type 0 where
   pub reason : ℕ
   pub world : World
 
+abbrev pub answered : Ended World → Ran
+answered x = record { refusal = accepted; reason = x .reason; world = x .state }
+
 -- refused: stop reason 0, and everything as it was
 unfoldable pub runAnswer : List ℕ → World → ℕ → Ran
 runAnswer s w budget =
     cond (eqb (runRefusal s w budget .number) 0)
-    (record { refusal = accepted; reason = runOf (programOf s) budget w .reason; world = runOf (programOf s) budget w .state })
+    (answered (runOf (programOf s) budget w))
     (record { refusal = runRefusal s w budget; reason = 0; world = w })

@@ -10,3 +10,4 @@ pub mod Bare
 pub mod Calls
 pub mod Allowed
 pub mod Cases
+pub mod CallCases

@@ -38,7 +38,7 @@ unfoldable pub outputsEntered : ℕ → List Output → List ℕ → List ℕ
 outputsEntered k [] l = l
 outputsEntered k (o ∷ os) l = outputsEntered (suc k) os (entered outputSize k (outputWords o) l)
 
--- the outputs in the first n places
+-- the outputs in the first n places, of a list that has as many
 unfoldable pub outputsIn : ℕ → List ℕ → List Output
 outputsIn zero l = []
 outputsIn (suc n) l = outputsIn n l ++ (output (getD l (outputSize * n) 0) (getD l (outputSize * n + 1) 0) ∷ [])

@@ -36,6 +36,7 @@ together {places} {w} {c} r =
       marks = r .parts .marks;
       number = ap length (r .outputs) ∙ length-outputs (w .counts .outputs) (w .outputList);
       outputs = r .outputs;
+      placed = rw (r .places-kept) (r .room);
       registers = λ i. beside-at (r .parts .regs) word-past i .agree;
       memory = λ i e. subst (λ (t : Bool). Agree (cond t (getD (w .parts .memV) i 0) undefinedByte) (getD (w .parts .mem) i 0) (getD (c .parts .mem) i 0)) (eq-eqb (getD (w .parts .memA) i 0) 1 e) (beside-at (r .parts .mem) byte-past i .agree);
     }
