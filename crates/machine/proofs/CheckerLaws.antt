@@ -98,7 +98,7 @@ reports-grow program (suc left) w = go (reports-grow program left (nextOf progra
     go ih (suc r) e = omega (arith, reports (halts (reasonOf program) (nextOf program) (suc left) r w e))
 
 -- ---- a run takes no more steps than its budget
-step-counted : (program : Program) (w : World) → nextOf program w .counts .steps ≡ suc (w .counts .steps)
+step-counted : (program : Program) (w : World) → nextOf program w .counts .steps ≡ w .counts .steps + 1
 unfolding nextOf stepped counted
 step-counted program w = refl
 
@@ -110,7 +110,7 @@ steps-within program (suc left) w = go (steps-within program left (nextOf progra
     steps : {x y : Ended World} → x ≡ y → x .state .counts .steps ≡ y .state .counts .steps
     steps e = ap (λ (x : Ended World). x .state .counts .steps) e
 
-    one : nextOf program w .counts .steps ≡ suc (w .counts .steps)
+    one : nextOf program w .counts .steps ≡ w .counts .steps + 1
     one = step-counted program w
 
     go : runOf program left (nextOf program w) .state .counts .steps ≤ nextOf program w .counts .steps + left

@@ -22,18 +22,18 @@ use Rattle.machine.proofs.Places.{length-written}
 -- a step that is taken ends at an index of at most N
 pub way-within : (n m : ℕ) (i : Instruction) (regs : List ℕ) (index : ℕ) → Fits n m i → index < n → wayOn i regs index ≤ n
 unfolding wayOn
-way-within n m Stop regs index f h = h
-way-within n m (Move d b) regs index f h = h
-way-within n m (Compute op d a b) regs index f h = h
-way-within n m (Load width d a imm) regs index f h = h
-way-within n m (Store width d a imm) regs index f h = h
+way-within n m Stop regs index f h = omega arith
+way-within n m (Move d b) regs index f h = omega arith
+way-within n m (Compute op d a b) regs index f h = omega arith
+way-within n m (Load width d a imm) regs index f h = omega arith
+way-within n m (Store width d a imm) regs index f h = omega arith
 way-within n m (Jump a target) regs index f h = go (eqb (getD regs a 0) 0)
   where
-    go : (t : Bool) → cond t (suc index) target ≤ n
-    go true = h
+    go : (t : Bool) → cond t (index + 1) target ≤ n
+    go true = omega arith
     go false = omega (arith, f .1)
-way-within n m (Emit a port) regs index f h = h
-way-within n m (Mark addressable start size) regs index f h = h
+way-within n m (Emit a port) regs index f h = omega arith
+way-within n m (Mark addressable start size) regs index f h = omega arith
 
 -- ---- outputs
 -- a step that is taken has a place for each of its outputs

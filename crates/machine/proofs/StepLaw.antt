@@ -195,7 +195,7 @@ module _ (program : Program) (m : ℕ) (fits : (i : ℕ) → i < program .count 
             (record {
               parts = k .after;
               index = k .way (w .counts .index);
-              steps = ap suc (r .steps);
+              steps = ap (λ (n : ℕ). n + 1) (r .steps);
               outputs = rw (k .outputs, r .outputs) (outputs-entered (w .counts .outputs) os (w .outputList) (rw (r .places-kept) room));
               room = room;
               places-kept = rw (length-outputs-entered (w .counts .outputs) os (w .outputList)) (r .places-kept);

@@ -1,5 +1,5 @@
 -- The bare machine (01, The bare machine): no V bits, no reports. It keeps a mark for each byte, and traps where a load or store meets a byte that is not marked.
-use Prim.Native.Nat.{ℕ, suc}
+use Prim.Native.Nat.{ℕ, _+_}
 use mathlib.Core.Bool.{Bool, cond}
 use mathlib.Core.List.{List, [], _++_}
 use lib.ListN.{length, getD, set}
@@ -50,7 +50,7 @@ bareStepped i c =
     record {
       parts = bareActed i (c .parts);
       index = wayOn i (c .parts .regs) (c .index);
-      steps = suc (c .steps);
+      steps = c .steps + 1;
       outputs = c .outputs ++ outputsOf i (c .parts .regs);
     }
 

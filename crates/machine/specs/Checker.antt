@@ -1,5 +1,5 @@
 -- The machine with its shadow, whole (01: the bench): one step on parts, counts and lists, and a run.
-use Prim.Native.Nat.{ℕ, suc, _+_}
+use Prim.Native.Nat.{ℕ, _+_}
 use lib.ListN.{length}
 use Rattle.image.specs.declared.Instruction.{Instruction}
 use Rattle.machine.specs.Machine.{Parts, Counts, World, Program}
@@ -13,7 +13,7 @@ unfoldable pub counted : Instruction → Parts → Counts → Counts
 counted i p c =
     record {
       index = wayOn i (p .regs) (c .index);
-      steps = suc (c .steps);
+      steps = c .steps + 1;
       outputs = c .outputs + length (outputsOf i (p .regs));
       reports = c .reports + length (reportsOf i p);
     }

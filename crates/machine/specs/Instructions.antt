@@ -1,6 +1,6 @@
 -- What both machines share of an instruction (01, the table of instructions, and Address under Shadow rules): the second operand, the address,
 -- the bytes of an access, the way on, and what is put out. What an operation does to data is `actionOf` of the crate `rules`.
-use Prim.Native.Nat.{ℕ, suc}
+use Prim.Native.Nat.{ℕ, _+_}
 use mathlib.Core.Bool.{Bool, false, cond, not}
 use mathlib.Core.List.{List, [], _∷_}
 use lib.ListN.{getD}
@@ -41,14 +41,14 @@ blocked A (Mark addressable start size) regs = false
 
 -- the index of the next instruction: JNZ jumps by the data, any step not jumping goes to the next index
 unfoldable pub wayOn : Instruction → List ℕ → ℕ → ℕ
-wayOn Stop regs index = suc index
-wayOn (Move d b) regs index = suc index
-wayOn (Compute op d a b) regs index = suc index
-wayOn (Load width d a imm) regs index = suc index
-wayOn (Store width d a imm) regs index = suc index
-wayOn (Jump a target) regs index = cond (eqb (getD regs a 0) 0) (suc index) target
-wayOn (Emit a port) regs index = suc index
-wayOn (Mark addressable start size) regs index = suc index
+wayOn Stop regs index = index + 1
+wayOn (Move d b) regs index = index + 1
+wayOn (Compute op d a b) regs index = index + 1
+wayOn (Load width d a imm) regs index = index + 1
+wayOn (Store width d a imm) regs index = index + 1
+wayOn (Jump a target) regs index = cond (eqb (getD regs a 0) 0) (index + 1) target
+wayOn (Emit a port) regs index = index + 1
+wayOn (Mark addressable start size) regs index = index + 1
 
 pub record Output : Type 0 where
   pub port : ℕ
