@@ -49,7 +49,7 @@ has-room (Emit a port) regs places k h e = omega (arith, leb-false places k e)
 has-room (Mark addressable start size) regs places k h e = omega arith
 
 -- ---- reports
-few-undefined : (kind v : ℕ) → length (ifUndefined kind v) ≤ 1
+pub few-undefined : (kind v : ℕ) → length (ifUndefined kind v) ≤ 1
 unfolding ifUndefined
 few-undefined kind v = go (eqb v 0)
   where
@@ -57,7 +57,7 @@ few-undefined kind v = go (eqb v 0)
     go true = omega arith
     go false = omega arith
 
-few-blocked : (kind at : ℕ) (b : Bool) → length (ifBlocked kind at b) ≤ 1
+pub few-blocked : (kind at : ℕ) (b : Bool) → length (ifBlocked kind at b) ≤ 1
 unfolding ifBlocked
 few-blocked kind at true = omega arith
 few-blocked kind at false = omega arith
