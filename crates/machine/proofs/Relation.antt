@@ -97,7 +97,7 @@ byte-past = alike-undefined 8 (omega arith) (omega arith)
 
 -- a byte with V 255, addressable or not
 pub byte-undefined : (a : ℕ) {x y : ℕ} → x < 2 ^ 8 → y < 2 ^ 8 → ByteAlike a undefinedByte x y
-byte-undefined a {x} {y} hx hy = go (eqb a 1)
+byte-undefined a {x} {y} hx hy = go (eqb a addressableMark)
   where
     go : (t : Bool) → Alike 8 (cond t undefinedByte undefinedByte) x y
     go true = alike-undefined 8 hx hy
