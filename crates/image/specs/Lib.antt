@@ -1,4 +1,3 @@
-pub mod Tests
 pub mod Words
 pub mod Format
 pub mod Rows
@@ -7,3 +6,4 @@ pub mod Regions
 pub mod Refusals
 pub mod Accepted
 pub mod Example
+pub mod Tests

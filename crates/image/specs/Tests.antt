@@ -1,4 +1,4 @@
--- Tests of many numbers.
+-- A test of many numbers: the proofs use it for the rows of the table, the crate `machine` for ranges of bytes.
 use Prim.Native.Nat.{ℕ, zero, suc}
 use mathlib.Core.Bool.{Bool, true, _&&_}
 
