@@ -1,4 +1,5 @@
--- Laws of the checker's run: what it means that no reason to stop holds; and reports never go down.
+-- Laws of the checker's run: what it means that no reason to stop holds; a budget of one more is one step more; a run may be continued; reports
+-- never go down, a run takes no more steps than its budget, and ends with one of four reasons.
 use Prim.Native.Nat.{ℕ, zero, suc, _+_, _≤_, _<_}
 use mathlib.Core.Path.{_≡_, refl, sym, ap, subst}
 use mathlib.Core.Bool.{Bool, true, false, cond, _&&_}
@@ -10,7 +11,7 @@ use Rattle.machine.specs.Machine.{World, Program}
 use Rattle.machine.specs.Lists.{outputPlaces}
 use Rattle.machine.specs.Runs.{goesOn, stopped, pastEnd, noBudget, noPlace, isStop, isEmit, reasonAt, Ended, runOn}
 use Rattle.machine.specs.Checker.{counted, stepped, reasonOf, nextOf, runOf}
-use Rattle.machine.proofs.RunLaws.{Steady, halts, goes, one-more, stays, continued}
+use Rattle.machine.proofs.RunLaws.{every-run, Steady, one-more, stays, continued}
 
 -- ---- no reason to stop
 pub record Goes (program : Program) (places left index outputs : ℕ) : Type 0 where
@@ -20,9 +21,9 @@ pub record Goes (program : Program) (places left index outputs : ℕ) : Type 0 w
   pub has-budget : 0 < left
 
 -- a test whose answer would be a reason has failed
-passed : (t : Bool) (r rest : ℕ) → cond t (suc r) rest ≡ 0 → (t ≡ false) × (rest ≡ 0)
-passed true r rest e = absurd (omega arith)
-passed false r rest e = (refl, e)
+not-this : (t : Bool) (r rest : ℕ) → cond t (suc r) rest ≡ 0 → (t ≡ false) × (rest ≡ 0)
+not-this true r rest e = absurd (omega arith)
+not-this false r rest e = (refl, e)
 
 some-left : (left : ℕ) → eqb left 0 ≡ false → 0 < left
 some-left zero e = absurd (let z : _≡_ {A = ℕ} 0 1 = cc in omega arith)
@@ -31,10 +32,10 @@ some-left (suc left) e = omega arith
 pub reason-goes : (program : Program) (places left index outputs : ℕ) → reasonAt program places left index outputs ≡ 0 → Goes program places left index outputs
 unfolding reasonAt
 reason-goes program places left index outputs e =
-    let end = passed (leb (program .count) index) 1 _ e in
-    let stop = passed (isStop (program .at index)) 0 _ (end .1) in
-    let place = passed (isEmit (program .at index) && leb places outputs) 3 _ (stop .1) in
-    let budget = passed (eqb left 0) 2 _ (place .1) in
+    let end = not-this (leb (program .count) index) 1 _ e in
+    let stop = not-this (isStop (program .at index)) 0 _ (end .1) in
+    let place = not-this (isEmit (program .at index) && leb places outputs) 3 _ (stop .1) in
+    let budget = not-this (eqb left 0) 2 _ (place .1) in
     record {
       before-end = leb-false (program .count) index (end .0);
       no-stop = stop .0;
@@ -79,44 +80,28 @@ module _ (program : Program) where
   pub run-continued : (j k : ℕ) (w : World) → runOf program (j + k) w ≡ runOf program k (runOf program j w .state)
   run-continued = continued (reasonOf program) (nextOf program) (checker-steady program) (checker-firm program)
 
--- ---- reports never go down
+-- ---- reports never go down, and a run takes no more steps than its budget
 step-reports : (program : Program) (w : World) → w .counts .reports ≤ nextOf program w .counts .reports
 unfolding nextOf stepped counted
 step-reports program w = omega arith
 
-pub reports-grow : (program : Program) (left : ℕ) (w : World) → w .counts .reports ≤ runOf program left w .state .counts .reports
-unfolding runOn
-reports-grow program zero w = omega arith
-reports-grow program (suc left) w = go (reports-grow program left (nextOf program w)) (reasonOf program (suc left) w) refl
-  where
-    reports : {x y : Ended World} → x ≡ y → x .state .counts .reports ≡ y .state .counts .reports
-    reports e = ap (λ (x : Ended World). x .state .counts .reports) e
-
-    go : nextOf program w .counts .reports ≤ runOf program left (nextOf program w) .state .counts .reports
-        → (r : ℕ) → reasonOf program (suc left) w ≡ r → w .counts .reports ≤ runOf program (suc left) w .state .counts .reports
-    go ih zero e = omega (arith, step-reports program w, ih, reports (goes (reasonOf program) (nextOf program) left w e))
-    go ih (suc r) e = omega (arith, reports (halts (reasonOf program) (nextOf program) (suc left) r w e))
-
--- ---- a run takes no more steps than its budget
 step-counted : (program : Program) (w : World) → nextOf program w .counts .steps ≡ w .counts .steps + 1
 unfolding nextOf stepped counted
 step-counted program w = refl
 
+pub reports-grow : (program : Program) (left : ℕ) (w : World) → w .counts .reports ≤ runOf program left w .state .counts .reports
+reports-grow program =
+    every-run (reasonOf program) (nextOf program) (λ left w x. w .counts .reports ≤ x .state .counts .reports)
+    (λ left r w e. omega arith)
+    (λ w e. omega arith)
+    (λ left w e rest. omega (arith, step-reports program w, rest))
+
 pub steps-within : (program : Program) (left : ℕ) (w : World) → runOf program left w .state .counts .steps ≤ w .counts .steps + left
-unfolding runOn
-steps-within program zero w = omega arith
-steps-within program (suc left) w = go (steps-within program left (nextOf program w)) (reasonOf program (suc left) w) refl
-  where
-    steps : {x y : Ended World} → x ≡ y → x .state .counts .steps ≡ y .state .counts .steps
-    steps e = ap (λ (x : Ended World). x .state .counts .steps) e
-
-    one : nextOf program w .counts .steps ≡ w .counts .steps + 1
-    one = step-counted program w
-
-    go : runOf program left (nextOf program w) .state .counts .steps ≤ nextOf program w .counts .steps + left
-        → (r : ℕ) → reasonOf program (suc left) w ≡ r → runOf program (suc left) w .state .counts .steps ≤ w .counts .steps + suc left
-    go ih zero e = omega (arith, one, ih, steps (goes (reasonOf program) (nextOf program) left w e))
-    go ih (suc r) e = omega (arith, steps (halts (reasonOf program) (nextOf program) (suc left) r w e))
+steps-within program =
+    every-run (reasonOf program) (nextOf program) (λ left w x. x .state .counts .steps ≤ w .counts .steps + left)
+    (λ left r w e. omega arith)
+    (λ w e. omega arith)
+    (λ left w e rest. omega (arith, step-counted program w, rest))
 
 -- ---- a run ends with one of the four reasons
 cond-most : (t : Bool) (a b n : ℕ) → a ≤ n → b ≤ n → cond t a b ≤ n
@@ -141,12 +126,8 @@ pub record EndReason (reason : ℕ) : Type 0 where
   pub most : reason ≤ noPlace
 
 pub run-reason : (program : Program) (left : ℕ) (w : World) → EndReason (runOf program left w .reason)
-unfolding runOn
-run-reason program zero w = record { some = pos-of-ne-zero (reason-spent program w); most = reason-most program zero w }
-run-reason program (suc left) w = go (run-reason program left (nextOf program w)) (reasonOf program (suc left) w) refl
-  where
-    go : EndReason (runOf program left (nextOf program w) .reason) → (r : ℕ) → reasonOf program (suc left) w ≡ r → EndReason (runOf program (suc left) w .reason)
-    go ih zero e = subst (λ (x : Ended World). EndReason (x .reason)) (sym (goes (reasonOf program) (nextOf program) left w e)) ih
-    go ih (suc r) e =
-        subst (λ (x : Ended World). EndReason (x .reason)) (sym (halts (reasonOf program) (nextOf program) (suc left) r w e))
-        (record { some = omega arith; most = subst (λ (k : ℕ). k ≤ noPlace) e (reason-most program (suc left) w) })
+run-reason program =
+    every-run (reasonOf program) (nextOf program) (λ left w x. EndReason (x .reason))
+    (λ left r w e. record { some = omega arith; most = subst (λ (k : ℕ). k ≤ noPlace) e (reason-most program left w) })
+    (λ w e. absurd (reason-spent program w e))
+    (λ left w e rest. rest)

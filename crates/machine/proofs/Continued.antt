@@ -25,7 +25,7 @@ use Rattle.machine.specs.Checker.{counted, stepped, reasonOf, nextOf, ru
 use Rattle.machine.specs.Calls.{answered, mostReports, mostOutputs, mostSteps, runRefusal, beginAnswer, Ran, runAnswer}
 use Rattle.machine.specs.Allowed.{ListFits, Marks, Runnable}
 use Rattle.machine.proofs.ProgramLaws.{program-fits}
-use Rattle.machine.proofs.RunLaws.{halts, goes}
+use Rattle.machine.proofs.RunLaws.{every-run}
 use Rattle.machine.proofs.CheckerLaws.{Goes, reason-goes, run-continued, steps-within}
 use Rattle.machine.proofs.ListLaws.{length-reports-entered, length-outputs-entered}
 use Rattle.machine.proofs.StepBounds.{way-within, has-room, few-reports, SameLengths, same-lengths}
@@ -84,15 +84,11 @@ module _ (program : Program) (m : ℕ) (fits : (i : ℕ) → i < program .count 
       }
 
   pub run-runnable : (left : ℕ) (w : World) → Runnable (program .count) m w → Runnable (program .count) m (runOf program left w .state)
-  unfolding runOn
-  run-runnable zero w r = r
-  run-runnable (suc left) w r = go (λ q. run-runnable left (nextOf program w) q) (reasonOf program (suc left) w) refl
-    where
-      go : (Runnable (program .count) m (nextOf program w) → Runnable (program .count) m (runOf program left (nextOf program w) .state))
-          → (k : ℕ) → reasonOf program (suc left) w ≡ k → Runnable (program .count) m (runOf program (suc left) w .state)
-      go rest zero e =
-          subst (λ (x : Ended World). Runnable (program .count) m (x .state)) (sym (goes (reasonOf program) (nextOf program) left w e)) (rest (step-runnable (suc left) w r e))
-      go rest (suc k) e = subst (λ (x : Ended World). Runnable (program .count) m (x .state)) (sym (halts (reasonOf program) (nextOf program) (suc left) k w e)) r
+  run-runnable =
+      every-run (reasonOf program) (nextOf program) (λ left w x. Runnable (program .count) m w → Runnable (program .count) m (x .state))
+      (λ left r w e q. q)
+      (λ w e q. q)
+      (λ left w e rest q. rest (step-runnable (suc left) w q e))
 
 -- what an accepted run leaves, the next run refuses at most for its budget
 pub run-again : (s : List ℕ) → Bytes s → (w : World) (budget again : ℕ) → runAnswer s w budget .refusal .number ≡ 0

@@ -49,7 +49,7 @@ module _ (s : List ℕ) (b : Bytes s) (a : Accepted s) where
   run-quiet : (left : ℕ) {places : ℕ} {w : World} {c : Bare} → Quiet places w c → runOf (programOf s) left w .state .counts .reports ≡ 0
       → RunKept places (runOf (programOf s) left w) (bareRun (programOf s) places left c)
   run-quiet left {places} {w} {c} q none =
-      run-kept (programOf s) (fieldM s) (program-fits s b a) left (q (let z : w .counts .reports ≡ 0 = omega (arith, reports-grow (programOf s) left w, none) in z)) none
+      run-kept (programOf s) (fieldM s) (program-fits s b a) places left w c (q (let z : w .counts .reports ≡ 0 = omega (arith, reports-grow (programOf s) left w, none) in z)) none
 
   -- what a run of a series leaves
   world-accepted : (w : World) (budget : ℕ) → runAnswer s w budget .refusal .number ≡ 0 → runAnswer s w budget .world ≡ runOf (programOf s) budget w .state
