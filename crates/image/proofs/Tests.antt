@@ -3,8 +3,11 @@ use Prim.Native.Nat.{ℕ, zero, suc, _≤_, _<_}
 use mathlib.Core.Path.{_≡_, refl, ap, _∙_}
 use mathlib.Core.Logic.{_⊎_, inl, inr, ⊎-elim}
 use mathlib.Core.Bool.{Bool, true, false, _&&_, _||_}
+use mathlib.Core.List.{List}
 use native.Mathlib.Nat.{eq-or-lt-of-le}
 use native.Mathlib.Omega.{arith}
+use lib.ListN.{length, getD, List·getD-eq-default}
+use Rattle.rules.proofs.Bits.{lt-or-ge}
 use Rattle.image.specs.Tests.{every}
 
 -- true is not false
@@ -42,3 +45,11 @@ every-below test (suc n) h k l =
 pub all-every : (test : ℕ → Bool) (n : ℕ) → ((k : ℕ) → k < n → test k ≡ true) → every test n ≡ true
 all-every test zero h = refl
 all-every test (suc n) h = rw (all-every test n (λ k l. h k (omega arith)), h n (omega arith))
+
+-- of a list: what each element passes, and 0, passes at every place, past the end too
+pub every-element : (test : ℕ → Bool) (l : List ℕ) → test 0 ≡ true → every (λ k. test (getD l k 0)) (length l) ≡ true → (i : ℕ) → test (getD l i 0) ≡ true
+every-element test l z h i =
+    ⊎-elim
+    (λ (q : i < length l). every-below (λ k. test (getD l k 0)) (length l) h i q)
+    (λ (q : length l ≤ i). ap test (List·getD-eq-default l 0 q) ∙ z)
+    (lt-or-ge i (length l))

@@ -1,17 +1,15 @@
 -- Refusals 1 to 11 accept exactly the runs that `Allowed` describes.
-use Prim.Native.Nat.{ℕ, _+_, _*_, _%_, _≤_}
-use mathlib.Core.Path.{_≡_}
-use mathlib.Core.Logic.{⊎-elim}
+use Prim.Native.Nat.{ℕ, _+_, _*_, _%_}
+use mathlib.Core.Path.{_≡_, refl}
 use mathlib.Core.Bool.{true}
 use mathlib.Core.List.{List}
 use native.Mathlib.Omega.{arith}
-use lib.ListN.{length, getD, List·getD-eq-default}
+use lib.ListN.{length, getD}
 use lib.Dec.{eqb, leb}
 use borrow.Author.Tests.{eqb-true, leb-true, eq-eqb, le-leb}
-use Rattle.rules.proofs.Bits.{lt-or-ge}
 use Rattle.image.specs.Format.{fieldM, fieldN}
 use Rattle.image.specs.Refusals.{accepted, refusalOf}
-use Rattle.image.proofs.Tests.{both, all-three, every-below, all-every}
+use Rattle.image.proofs.Tests.{both, all-three, every-element, all-every}
 use Rattle.image.proofs.Faults.{passed, both-passed}
 use Rattle.image.proofs.AcceptedImage.{accepted-image, image-accepted}
 use Rattle.machine.specs.Machine.{World}
@@ -27,11 +25,7 @@ list-holds size most l h =
 
 marks-hold : (memA : List ℕ) → marksOk memA ≡ true → Marks memA
 unfolding marksOk
-marks-hold memA h i =
-    ⊎-elim
-    (λ l. leb-true _ _ (every-below (λ k. leb (getD memA k 0) 1) (length memA) h i l))
-    (λ (g : length memA ≤ i). omega (arith, List·getD-eq-default memA 0 g))
-    (lt-or-ge i (length memA))
+marks-hold memA h i = leb-true (getD memA i 0) 1 (every-element (λ x. leb x 1) memA refl h i)
 
 pub allowed-run : (s : List ℕ) (w : World) (budget : ℕ) → runRefusal s w budget .number ≡ 0 → Allowed s w budget
 unfolding runRefusal

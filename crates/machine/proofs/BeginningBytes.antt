@@ -16,7 +16,7 @@ use Rattle.image.specs.Accepted.{Accepted}
 use Rattle.image.proofs.AcceptedImage.{regions-apart}
 use Rattle.machine.specs.Machine.{undefinedByte, definedByte, addressableMark, unaddressableMark}
 use Rattle.machine.specs.Ranges.{written, filled}
-use Rattle.machine.specs.Beginning.{isFilled, layData, layV, layA, laid, regionsOf, dataOf, begunMemory, begunV, begunA}
+use Rattle.machine.specs.Beginning.{isFilled, layData, laid, regionsOf, dataOf, begunMemory, begunV, begunA}
 use Rattle.machine.proofs.Places.{length-written, written-there, written-elsewhere}
 
 -- ---- a place of what was laid
@@ -77,21 +77,25 @@ module _ (s mem : List ℕ) (a : Accepted s) (size : length mem ≡ fieldM s) wh
 
   -- ---- V bits and A bits: each region writes one value
   module _ (value : ℕ → ℕ) where
-    fills : ℕ → List ℕ → List ℕ
-    fills i l = filled (value i) l (regionAt (regionsOf s) i .start) (regionAt (regionsOf s) i .size)
+    abbrev Fills : ℕ → List ℕ → List ℕ
+    Fills i l = filled (value i) l (regionAt (regionsOf s) i .start) (regionAt (regionsOf s) i .size)
+
+    fills-keep : Keeping Fills
+    fills-keep i l = length-written _ l _ _
+
+    fills-length : (x : ℕ) → length (laid Fills (fieldR s) (replicate (fieldM s) x)) ≡ fieldM s
+    fills-length x = laid-length Fills fills-keep (fieldR s) (replicate (fieldM s) x) ∙ length-replicate (fieldM s) x
 
     fills-hit : (x i k : ℕ) → i < fieldR s → k < regionAt (regionsOf s) i .size
-        → getD (laid fills (fieldR s) (replicate (fieldM s) x)) (addressIn s i k) 0 ≡ value i
-    unfolding fills
+        → getD (laid Fills (fieldR s) (replicate (fieldM s) x)) (addressIn s i k) 0 ≡ value i
     fills-hit x i k h q =
-        laid-hit fills (λ j l. length-written _ l _ _) (addressIn s i k) (value i) (fieldM s) i (fieldR s) (replicate (fieldM s) x) (length-replicate (fieldM s) x) h
+        laid-hit Fills fills-keep (addressIn s i k) (value i) (fieldM s) i (fieldR s) (replicate (fieldM s) x) (length-replicate (fieldM s) x) h
         (λ l e. written-there _ l _ _ k q (rw e (a .regions i h .within)))
         (λ j lo hi l. written-elsewhere _ l _ _ (addressIn s i k) (later i j k lo hi q))
 
-    fills-missed : (x y : ℕ) → y < fieldM s → ((j : ℕ) → j < fieldR s → Outside s y j) → getD (laid fills (fieldR s) (replicate (fieldM s) x)) y 0 ≡ x
-    unfolding fills
+    fills-missed : (x y : ℕ) → y < fieldM s → ((j : ℕ) → j < fieldR s → Outside s y j) → getD (laid Fills (fieldR s) (replicate (fieldM s) x)) y 0 ≡ x
     fills-missed x y l out =
-        laid-missed fills y (fieldR s) (replicate (fieldM s) x) (λ j h k. written-elsewhere _ k _ _ y (out j h)) ∙ getD-replicate (fieldM s) y x 0 l
+        laid-missed Fills y (fieldR s) (replicate (fieldM s) x) (λ j h k. written-elsewhere _ k _ _ y (out j h)) ∙ getD-replicate (fieldM s) y x 0 l
 
   -- ---- data: a filled region writes its own
   copied : ℕ → List ℕ → List ℕ
@@ -120,16 +124,16 @@ module _ (s mem : List ℕ) (a : Accepted s) (size : length mem ≡ fieldM s) wh
 
   pub length-V : length (begunV s) ≡ fieldM s
   unfolding begunV
-  length-V = laid-length (layV (regionsOf s)) (λ i l. length-written _ l _ _) (fieldR s) (replicate (fieldM s) undefinedByte) ∙ length-replicate (fieldM s) undefinedByte
+  length-V = fills-length _ undefinedByte
 
   pub length-A : length (begunA s) ≡ fieldM s
   unfolding begunA
-  length-A = laid-length (layA (regionsOf s)) (λ i l. length-written _ l _ _) (fieldR s) (replicate (fieldM s) unaddressableMark) ∙ length-replicate (fieldM s) unaddressableMark
+  length-A = fills-length _ unaddressableMark
 
   -- ---- the three sentences
   pub begun-filled : (i k : ℕ) → i < fieldR s → regionAt (regionsOf s) i .kind ≡ filledKind → k < regionAt (regionsOf s) i .size
       → Begun s mem (addressIn s i k) (getD (dataOf s) (filledSum (regionsOf s) i + k) 0) definedByte addressableMark
-  unfolding begunMemory begunV begunA fills
+  unfolding begunMemory begunV begunA
   begun-filled i k h kind q =
       let is-filled : isFilled (regionAt (regionsOf s) i) ≡ true = eq-eqb (regionAt (regionsOf s) i .kind) filledKind kind in
       record {
@@ -137,13 +141,13 @@ module _ (s mem : List ℕ) (a : Accepted s) (size : length mem ≡ fieldM s) wh
             laid-hit (layData (regionsOf s) (dataOf s)) data-keeps (addressIn s i k) _ (fieldM s) i (fieldR s) mem size h
             (λ l e. rw is-filled (written-there _ l _ _ k q (rw e (a .regions i h .within))))
             (λ j lo hi. data-misses (addressIn s i k) j (later i j k lo hi q));
-        shadow = fills-hit (λ j. cond (isFilled (regionAt (regionsOf s) j)) definedByte undefinedByte) undefinedByte i k h q ∙ rw is-filled;
-        marked = fills-hit (λ j. addressableMark) unaddressableMark i k h q;
+        shadow = fills-hit _ undefinedByte i k h q ∙ rw is-filled;
+        marked = fills-hit _ unaddressableMark i k h q;
       }
 
   pub begun-undefined : (i k : ℕ) → i < fieldR s → regionAt (regionsOf s) i .kind ≡ undefinedKind → k < regionAt (regionsOf s) i .size
       → Begun s mem (addressIn s i k) (getD mem (addressIn s i k) 0) undefinedByte addressableMark
-  unfolding begunMemory begunV begunA fills
+  unfolding begunMemory begunV begunA
   begun-undefined i k h kind q =
       let not-filled : isFilled (regionAt (regionsOf s) i) ≡ false = ne-eqb (regionAt (regionsOf s) i .kind) filledKind (λ e. omega (arith, e, kind)) in
       record {
@@ -156,15 +160,15 @@ module _ (s mem : List ℕ) (a : Accepted s) (size : length mem ≡ fieldM s) wh
             (λ (l′ : i < j). data-misses (addressIn s i k) j (later i j k l′ g q))
             (eq-or-lt-of-le l))
             (lt-or-ge j i));
-        shadow = fills-hit (λ j. cond (isFilled (regionAt (regionsOf s) j)) definedByte undefinedByte) undefinedByte i k h q ∙ rw not-filled;
-        marked = fills-hit (λ j. addressableMark) unaddressableMark i k h q;
+        shadow = fills-hit _ undefinedByte i k h q ∙ rw not-filled;
+        marked = fills-hit _ unaddressableMark i k h q;
       }
 
   pub begun-outside : (x : ℕ) → x < fieldM s → ((j : ℕ) → j < fieldR s → Outside s x j) → Begun s mem x (getD mem x 0) undefinedByte unaddressableMark
-  unfolding begunMemory begunV begunA fills
+  unfolding begunMemory begunV begunA
   begun-outside x l out =
       record {
         holds = laid-missed (layData (regionsOf s) (dataOf s)) x (fieldR s) mem (λ j g. data-misses x j (out j g));
-        shadow = fills-missed (λ j. cond (isFilled (regionAt (regionsOf s) j)) definedByte undefinedByte) undefinedByte x l out;
-        marked = fills-missed (λ j. addressableMark) unaddressableMark x l out;
+        shadow = fills-missed _ undefinedByte x l out;
+        marked = fills-missed _ unaddressableMark x l out;
       }

@@ -19,7 +19,7 @@ use Rattle.machine.specs.Calls.{marksOk, beginRefusal, runRefusal, begin
 use Rattle.machine.specs.CallCases.{StepCase, stepCases, small, handedRegs, handedMem, handedShadow, smallBegun, smallRefused, atLoad, bareThere, TrapCase, trapCases, RefusalCase, refusalCases, refusalGiven}
 
 pub steps-hold : map (λ (c : StepCase). stepped (c .does) (c .before)) stepCases ≡ map (λ (c : StepCase). c .after) stepCases
-unfolding joined blocked wayOn outputsOf withRegister cleared loadStep acted ifUndefined ifBlocked reportsOf entered reportsEntered outputsEntered counted stepped
+unfolding joined blocked wayOn outputsOf withRegister cleared loadStep acted ifUndefined ifBlocked reportsOf written entered reportsEntered outputsEntered counted stepped
 steps-hold = refl
 
 pub beginning-holds : beginAnswer small handedRegs handedMem handedShadow handedShadow ≡ record { refusal = accepted; parts = smallBegun; counts = zeroCounts }

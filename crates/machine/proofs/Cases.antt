@@ -19,5 +19,5 @@ unfolding isStop isEmit reasonAt
 reasons-hold = refl
 
 pub entries-hold : map listGiven entryCases ≡ map (λ (c : EntryCase). c .list) entryCases
-unfolding entered
+unfolding written entered
 entries-hold = refl

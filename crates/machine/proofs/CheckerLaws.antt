@@ -1,15 +1,14 @@
 -- Laws of the checker's run: what it means that no reason to stop holds; a budget of one more is one step more; a run may be continued; reports
 -- never go down, a run takes no more steps than its budget, and ends with one of four reasons.
 use Prim.Native.Nat.{ℕ, zero, suc, _+_, _≤_, _<_}
-use mathlib.Core.Path.{_≡_, refl, sym, ap, subst}
+use mathlib.Core.Path.{_≡_, refl, subst}
 use mathlib.Core.Bool.{Bool, true, false, cond, _&&_}
 use native.Mathlib.Omega.{arith}
-use native.Mathlib.Nat.{pos-of-ne-zero}
 use lib.Dec.{eqb, leb, eqb·suc-zero}
 use borrow.Author.Tests.{leb-false}
 use Rattle.machine.specs.Machine.{World, Program}
 use Rattle.machine.specs.Lists.{outputPlaces}
-use Rattle.machine.specs.Runs.{goesOn, stopped, pastEnd, noBudget, noPlace, isStop, isEmit, reasonAt, Ended, runOn}
+use Rattle.machine.specs.Runs.{goesOn, stopped, pastEnd, noBudget, noPlace, isStop, isEmit, reasonAt}
 use Rattle.machine.specs.Checker.{counted, stepped, reasonOf, nextOf, runOf}
 use Rattle.machine.proofs.RunLaws.{every-run, Steady, one-more, stays, continued}
 

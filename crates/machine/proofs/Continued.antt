@@ -1,7 +1,7 @@
 -- A run may be continued from the state (01, A run, its lists and its end): what an accepted run leaves, the next run refuses at most for its
 -- budget. What refusals 8, 10 and 11 ask for is kept by every step.
 use Prim.Native.Nat.{ℕ, zero, suc, _+_, _≤_, _<_}
-use mathlib.Core.Path.{_≡_, refl, sym, ap, subst, _∙_}
+use mathlib.Core.Path.{_≡_, sym, ap, subst, _∙_}
 use mathlib.Core.Bool.{Bool, true, false}
 use mathlib.Core.List.{List, [], _∷_}
 use native.Mathlib.Omega.{arith}
@@ -20,7 +20,6 @@ use Rattle.machine.specs.Beginning.{layA, laid, regionsOf, begunA, begun
 use Rattle.machine.specs.Instructions.{outputsOf}
 use Rattle.machine.specs.Steps.{withRegister, cleared, loadStep, storeStep, markOf, markStep, acted, reportsOf}
 use Rattle.machine.specs.Lists.{reportSize, outputSize, outputPlaces}
-use Rattle.machine.specs.Runs.{Ended, runOn}
 use Rattle.machine.specs.Checker.{counted, stepped, reasonOf, nextOf, runOf}
 use Rattle.machine.specs.Calls.{answered, mostReports, mostOutputs, mostSteps, runRefusal, beginAnswer, Ran, runAnswer}
 use Rattle.machine.specs.Allowed.{ListFits, Marks, Runnable}

@@ -9,26 +9,26 @@ use native.Mathlib.Omega.{arith}
 use native.Mathlib.Nat.{le-trans, mul-suc, mul-le-mul-left, mul-div-le}
 use lib.ListN.{length, getD, length-append}
 use lib.Dec.{ltb}
-use lib.Seq.{sets, length-sets}
 use borrow.Author.Tests.{lt-ltb, le-ltb}
+use Rattle.machine.specs.Ranges.{written}
 use Rattle.machine.specs.Instructions.{Output}
 use Rattle.machine.specs.Steps.{Report}
 use Rattle.machine.specs.Lists.{reportSize, reportWords, reportsEntered, outputSize, outputPlaces, outputWords, entered, outputsEntered, outputsIn}
-use Rattle.machine.proofs.Places.{sets-there, sets-elsewhere}
+use Rattle.machine.proofs.Places.{length-written, written-there, written-elsewhere}
 
 -- ---- one entry of so many words
 -- a place below the number of places lies in the list
-place-fits : (size k n : ℕ) (words : List ℕ) → length words ≡ size → k < n / size → size * k + length words ≤ n
-place-fits size k n words e h =
+place-fits : (size k n : ℕ) → k < n / size → size * k + size ≤ n
+place-fits size k n h =
     let below : size * suc k ≤ size * (n / size) = mul-le-mul-left size h in
-    rw e (le-trans (rw (mul-suc size k) at below) (mul-div-le n size))
+    le-trans (rw (mul-suc size k) at below) (mul-div-le n size)
 
 pub length-entered : (size k : ℕ) (words l : List ℕ) → length (entered size k words l) ≡ length l
 unfolding entered
 length-entered size k words l = go (ltb k (length l / size))
   where
-    go : (t : Bool) → length (cond t (sets l (size * k) words) l) ≡ length l
-    go true = length-sets l (size * k) words
+    go : (t : Bool) → length (cond t (written (λ j. getD words j 0) l (size * k) size) l) ≡ length l
+    go true = length-written _ l (size * k) size
     go false = refl
 
 pub entered-past : (size k : ℕ) (words l : List ℕ) → length l / size ≤ k → entered size k words l ≡ l
@@ -36,17 +36,16 @@ unfolding entered
 entered-past size k words l h = rw (le-ltb k (length l / size) h)
 
 -- the words of number k, where there is a place k
-pub entered-there : (size k j : ℕ) (words l : List ℕ) → length words ≡ size → k < length l / size → j < size
-    → getD (entered size k words l) (size * k + j) 0 ≡ getD words j 0
+pub entered-there : (size k j : ℕ) (words l : List ℕ) → k < length l / size → j < size → getD (entered size k words l) (size * k + j) 0 ≡ getD words j 0
 unfolding entered
-entered-there size k j words l e h q = rw (lt-ltb k (length l / size) h) (sets-there words l (size * k) j (omega arith) (place-fits size k (length l) words e h))
+entered-there size k j words l h q = rw (lt-ltb k (length l / size) h) (written-there _ l (size * k) size j q (place-fits size k (length l) h))
 
-pub entered-elsewhere : (size k i : ℕ) (words l : List ℕ) → (i < size * k) ⊎ (size * k + length words ≤ i) → getD (entered size k words l) i 0 ≡ getD l i 0
+pub entered-elsewhere : (size k i : ℕ) (words l : List ℕ) → (i < size * k) ⊎ (size * k + size ≤ i) → getD (entered size k words l) i 0 ≡ getD l i 0
 unfolding entered
 entered-elsewhere size k i words l h = go (ltb k (length l / size))
   where
-    go : (t : Bool) → getD (cond t (sets l (size * k) words) l) i 0 ≡ getD l i 0
-    go true = sets-elsewhere words l (size * k) i h
+    go : (t : Bool) → getD (cond t (written (λ j. getD words j 0) l (size * k) size) l) i 0 ≡ getD l i 0
+    go true = written-elsewhere _ l (size * k) size i h
     go false = refl
 
 -- ---- the reports
@@ -87,8 +86,8 @@ one-entered : (k : ℕ) (o : Output) (l : List ℕ) → k < outputPlaces l → o
 unfolding outputsIn
 one-entered k o l h =
     let e0 : getD (entered outputSize k (outputWords o) l) (outputSize * k) 0 ≡ o .port
-    = ap (λ (i : ℕ). getD (entered outputSize k (outputWords o) l) i 0) (let z : outputSize * k ≡ outputSize * k + 0 = omega arith in z) ∙ entered-there outputSize k 0 (outputWords o) l refl h (omega arith) in
-    rw (outputs-before k k o l (omega arith), e0, entered-there outputSize k 1 (outputWords o) l refl h (omega arith))
+    = ap (λ (i : ℕ). getD (entered outputSize k (outputWords o) l) i 0) (let z : outputSize * k ≡ outputSize * k + 0 = omega arith in z) ∙ entered-there outputSize k 0 (outputWords o) l h (omega arith) in
+    rw (outputs-before k k o l (omega arith), e0, entered-there outputSize k 1 (outputWords o) l h (omega arith))
 
 pub length-outputs-entered : (k : ℕ) (os : List Output) (l : List ℕ) → length (outputsEntered k os l) ≡ length l
 unfolding outputsEntered

@@ -1,15 +1,14 @@
 -- What stands at each place after a range of a list was written.
 use Prim.Native.Nat.{ℕ, zero, suc, _+_, _-_, _≤_, _<_}
-use mathlib.Core.Path.{_≡_, refl, ap, _∙_}
+use mathlib.Core.Path.{_≡_, refl, _∙_}
 use mathlib.Core.Logic.{_⊎_, inl, inr, ⊎-elim}
-use mathlib.Core.List.{List, [], _∷_}
+use mathlib.Core.List.{List}
 use native.Mathlib.Omega.{arith}
 use native.Mathlib.Nat.{eq-or-lt-of-le}
-use lib.ListN.{length, getD, set, length-set}
-use lib.Seq.{getD-set-same, getD-set-other, sets}
+use lib.ListN.{length, getD, length-set}
+use lib.Seq.{getD-set-same, getD-set-other}
 use Rattle.machine.specs.Ranges.{written}
 
--- ---- a range that is written byte by byte
 pub length-written : (f : ℕ → ℕ) (l : List ℕ) (at n : ℕ) → length (written f l at n) ≡ length l
 unfolding written
 length-written f l at zero = refl
@@ -30,19 +29,3 @@ written-elsewhere f l at zero i h = refl
 written-elsewhere f l at (suc n) i h =
     getD-set-other (written f l at n) (at + n) i (f n) 0 (λ e. ⊎-elim (λ (b : i < at). omega arith) (λ (b : at + suc n ≤ i). omega arith) h)
     ∙ written-elsewhere f l at n i (⊎-elim (λ (b : i < at). inl b) (λ (b : at + suc n ≤ i). inr (let q : at + n ≤ i = omega arith in q)) h)
-
--- ---- words that are stored one after the other
-pub sets-elsewhere : (vs l : List ℕ) (at i : ℕ) → (i < at) ⊎ (at + length vs ≤ i) → getD (sets l at vs) i 0 ≡ getD l i 0
-sets-elsewhere [] l at i h = refl
-sets-elsewhere (v ∷ vs) l at i h =
-    sets-elsewhere vs (set l at v) (suc at) i (⊎-elim (λ (b : i < at). inl (let q : i < suc at = omega arith in q)) (λ (b : at + suc (length vs) ≤ i). inr (let q : suc at + length vs ≤ i = omega arith in q)) h)
-    ∙ getD-set-other l at i v 0 (λ e. ⊎-elim (λ (b : i < at). omega arith) (λ (b : at + suc (length vs) ≤ i). omega arith) h)
-
-pub sets-there : (vs l : List ℕ) (at k : ℕ) → k < length vs → at + length vs ≤ length l → getD (sets l at vs) (at + k) 0 ≡ getD vs k 0
-sets-there [] l at k h fits = absurd (omega arith)
-sets-there (v ∷ vs) l at zero h fits =
-    ap (λ (i : ℕ). getD (sets (set l at v) (suc at) vs) i 0) (let e : at + 0 ≡ at = omega arith in e)
-    ∙ sets-elsewhere vs (set l at v) (suc at) at (inl (omega arith)) ∙ getD-set-same l at v 0 (omega arith)
-sets-there (v ∷ vs) l at (suc k) h fits =
-    ap (λ (i : ℕ). getD (sets (set l at v) (suc at) vs) i 0) (let e : at + suc k ≡ suc at + k = omega arith in e)
-    ∙ sets-there vs (set l at v) (suc at) k (omega arith) (omega (arith, length-set l at v))

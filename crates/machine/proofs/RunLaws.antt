@@ -61,7 +61,7 @@ module _ {State : Type 0} (reason : ℕ → State → ℕ) (next : State → Sta
         from e = ap (λ (x : Ended State). look (runOn reason next k (x .state))) (sym e)
 
         go : ((t : State) → look (runOn reason next (j + k) t) ≡ look (runOn reason next k (after j t))) → (r : ℕ) → reason (suc j) s ≡ r
-          → look (runOn reason next (suc j + k) s) ≡ look (runOn reason next k (after (suc j) s))
+            → look (runOn reason next (suc j + k) s) ≡ look (runOn reason next k (after (suc j) s))
         go ih zero e =
             ap (λ (n : ℕ). look (runOn reason next n s)) (suc-add j k) ∙ ap look (goes (j + k) s (steady (j + k) j s ∙ e)) ∙ ih (next s) ∙ from (goes j s e)
         go ih (suc r) e = stopped j (suc j + k) r s e ∙ sym (stopped j k r s e) ∙ from (halts (suc j) r s e)
@@ -88,7 +88,7 @@ module _ {State : Type 0} (reason : ℕ → State → ℕ) (next : State → Sta
 
     -- and where such a state stops a run with no budget for the same reason, the reason is the same, too
     pub continued : ((j r : ℕ) (s : State) → reason (suc j) s ≡ suc r → reason 0 s ≡ suc r)
-      → (j k : ℕ) (s : State) → runOn reason next (j + k) s ≡ runOn reason next k (after j s)
+        → (j k : ℕ) (s : State) → runOn reason next (j + k) s ≡ runOn reason next k (after j s)
     continued firm = continues steady (λ (x : Ended State). x) same-end
       where
         same-end : (j k r : ℕ) (s : State) → reason (suc j) s ≡ suc r → runOn reason next k s ≡ ended (suc r) s

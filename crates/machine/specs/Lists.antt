@@ -4,7 +4,7 @@ use mathlib.Core.Bool.{cond}
 use mathlib.Core.List.{List, [], _∷_, _++_}
 use lib.ListN.{length, getD}
 use lib.Dec.{ltb}
-use lib.Seq.{sets}
+use Rattle.machine.specs.Ranges.{written}
 use Rattle.machine.specs.Instructions.{Output, output}
 use Rattle.machine.specs.Steps.{Report}
 
@@ -25,9 +25,9 @@ reportWords steps index r = steps ∷ index ∷ r .kind ∷ r .detail ∷ []
 abbrev pub outputWords : Output → List ℕ
 outputWords o = o .port ∷ o .value ∷ []
 
--- number k goes to place k if there is one; the other places keep their words
+-- number k, an entry of so many words, goes to place k if there is one; the other places keep their words
 unfoldable pub entered : (size k : ℕ) (words : List ℕ) → List ℕ → List ℕ
-entered size k words l = cond (ltb k (length l / size)) (sets l (size * k) words) l
+entered size k words l = cond (ltb k (length l / size)) (written (λ j. getD words j 0) l (size * k) size) l
 
 -- one after the other, from number k on
 unfoldable pub reportsEntered : (steps index k : ℕ) → List Report → List ℕ → List ℕ

@@ -1,23 +1,20 @@
 -- The claim is not vacuous: the two series of specs/Samples.antt, computed.
-use Prim.Native.Nat.{ℕ, _^_, _≤_, _<_}
-use mathlib.Core.Path.{_≡_, refl, sym, subst}
-use mathlib.Core.Logic.{⊎-elim}
+use Prim.Native.Nat.{ℕ, _^_, _<_}
+use mathlib.Core.Path.{_≡_, refl}
 use mathlib.Core.Bool.{true}
 use mathlib.Core.List.{List, [], _∷_}
-use native.Mathlib.Omega.{arith}
-use lib.ListN.{length, getD, replicate, List·getD-eq-default}
+use lib.ListN.{length, getD, replicate}
 use lib.Dec.{ltb}
 use borrow.Author.Tests.{ltb-true}
 use Rattle.rules.specs.Bytes.{joined}
 use Rattle.rules.specs.Operations.{actionOf, shadowOf}
-use Rattle.rules.proofs.Bits.{lt-or-ge}
 use Rattle.image.specs.Tests.{every}
 use Rattle.image.specs.Words.{nthWord}
 use Rattle.image.specs.Rows.{rowOf, fieldsOk, built, decoded, decodeAt}
 use Rattle.image.specs.Regions.{regionAt, endBefore, regionOk, filledSum}
 use Rattle.image.specs.Refusals.{firstFault, instructionOk, codeRefusal, regionRefusal, refusalOf}
 use Rattle.image.specs.Example.{example}
-use Rattle.image.proofs.Tests.{every-below}
+use Rattle.image.proofs.Tests.{every-element}
 use Rattle.machine.specs.Machine.{programOf}
 use Rattle.machine.specs.Ranges.{written, storedWhere}
 use Rattle.machine.specs.Beginning.{laid, begunMemory, begunV, begunA, begunParts}
@@ -72,22 +69,18 @@ computed =
 
 -- ---- the theorem's premises can be met: it speaks of the clean series
 -- every element of a list is below a bound, by a computed test
-bounded : (bound : ℕ) (l : List ℕ) → 0 < bound → every (λ k. ltb (getD l k 0) bound) (length l) ≡ true → (i : ℕ) → getD l i 0 < bound
-bounded bound l p h i =
-    ⊎-elim
-    (λ (q : i < length l). ltb-true (getD l i 0) bound (every-below (λ k. ltb (getD l k 0) bound) (length l) h i q))
-    (λ (q : length l ≤ i). subst (λ (x : ℕ). x < bound) (sym (List·getD-eq-default l 0 q)) p)
-    (lt-or-ge i (length l))
+bounded : (bound : ℕ) (l : List ℕ) → ltb 0 bound ≡ true → every (λ k. ltb (getD l k 0) bound) (length l) ≡ true → (i : ℕ) → getD l i 0 < bound
+bounded bound l z h i = ltb-true (getD l i 0) bound (every-element (λ x. ltb x bound) l z h i)
 
 pub clean-claimed : Claim clean 3 (checkerSide clean cleanBudgets) (bareSide clean cleanBudgets)
 unfolding joined nthWord Demand3
 clean-claimed =
-    demand-3 clean (bounded (2 ^ 8) clean (omega arith) refl)
+    demand-3 clean (bounded (2 ^ 8) clean refl refl)
     (leftRegisters clean 0) (leftMemory clean 0) (leftMemory clean 0) (leftMemory clean 0)
-    (record { sixteen = refl; words = bounded (2 ^ 32) (leftRegisters clean 0) (omega arith) refl })
-    (bounded (2 ^ 8) (leftMemory clean 0) (omega arith) refl)
+    (record { sixteen = refl; words = bounded (2 ^ 32) (leftRegisters clean 0) refl refl })
+    (bounded (2 ^ 8) (leftMemory clean 0) refl refl)
     (computed .clean-begins)
     (leftRegisters clean 0xEEEE_EEEE) (leftMemory clean 0xEE)
-    (record { sixteen = refl; words = bounded (2 ^ 32) (leftRegisters clean 0xEEEE_EEEE) (omega arith) refl })
-    (record { size = refl; bytes = bounded (2 ^ 8) (leftMemory clean 0xEE) (omega arith) refl })
+    (record { sixteen = refl; words = bounded (2 ^ 32) (leftRegisters clean 0xEEEE_EEEE) refl refl })
+    (record { size = refl; bytes = bounded (2 ^ 8) (leftMemory clean 0xEE) refl refl })
     refl (replicate 8 0) (replicate 6 0) cleanBudgets
