@@ -2,7 +2,7 @@
 use Prim.Native.Nat.{ℕ, zero, suc, _-_, _*_, _≤_, _<_}
 use mathlib.Core.Path.{_≡_, refl, sym, _∙_, ap}
 use mathlib.Core.Logic.{_⊎_, inl, inr, ⊎-elim}
-use mathlib.Core.Bool.{Bool, true, _||_}
+use mathlib.Core.Bool.{Bool, true, false, cond, _||_}
 use mathlib.Core.List.{List}
 use native.Mathlib.Nat.{eq-or-lt-of-le}
 use native.Mathlib.Omega.{arith}
@@ -18,6 +18,7 @@ use Rattle.image.specs.declared.Decoded.{Decoded}
 use Rattle.image.specs.declared.Decoded.the-variants.{Valid, Fault}
 use Rattle.image.specs.declared.Instruction.{Instruction}
 use Rattle.image.specs.declared.Region.{Region}
+use Rattle.image.specs.declared.Header.{Header}
 use Rattle.image.proofs.Parts.{length-part}
 use Rattle.image.proofs.Tests.{apart, both, all-four, either}
 use Rattle.image.proofs.Faults.{passed, both-passed, no-fault, all-pass}
@@ -149,6 +150,16 @@ accepted-header s a = rw (image-accepted s a)
 pub accepted-code : (s : List ℕ) → Accepted s → codeOf s ≡ codePart s (fieldN s)
 unfolding codeOf
 accepted-code s a = rw (accepted-header s a)
+
+-- M of a header is never more than the most: it is 0 where the image is refused
+pub header-memory : (s : List ℕ) → headerOf s .m ≤ mostM
+unfolding headerOf
+header-memory s = go (eqb (refusalOf s .number) 0) refl
+  where
+    go : (t : Bool) → eqb (refusalOf s .number) 0 ≡ t
+        → cond {A = Header} t (record { m = fieldM s; n = fieldN s; r = fieldR s; d = fieldD s; refusal = refusalOf s }) (record { m = 0; n = 0; r = 0; d = 0; refusal = refusalOf s }) .m ≤ mostM
+    go true e = accepted-image s (eqb-true _ _ e) .limits .memory
+    go false e = omega arith
 
 -- ---- its size, and that of its parts
 pub accepted-small : (s : List ℕ) → Accepted s → length s ≤ largest

@@ -1,6 +1,6 @@
 -- Bool tests and what they say.
 use Prim.Native.Nat.{ℕ, zero, suc, _≤_, _<_}
-use mathlib.Core.Path.{_≡_, refl, ap, _∙_}
+use mathlib.Core.Path.{_≡_, refl, ap, _∙_, sym}
 use mathlib.Core.Logic.{_⊎_, inl, inr, ⊎-elim}
 use mathlib.Core.Bool.{Bool, true, false, _&&_, _||_}
 use mathlib.Core.List.{List}
@@ -53,3 +53,11 @@ every-element test l z h i =
     (λ (q : i < length l). every-below (λ k. test (getD l k 0)) (length l) h i q)
     (λ (q : length l ≤ i). ap test (List·getD-eq-default l 0 q) ∙ z)
     (lt-or-ge i (length l))
+
+-- one number that fails is enough
+pub not-every : (test : ℕ → Bool) (n k : ℕ) → k < n → test k ≡ false → every test n ≡ false
+not-every test n k l e = go (every test n) refl
+  where
+    go : (t : Bool) → every test n ≡ t → every test n ≡ false
+    go true h = apart (sym (every-below test n h k l) ∙ e)
+    go false h = h

@@ -35,6 +35,11 @@ pub const MOST_R: u32 = 32;
 
 pub const MOST_D: u32 = 4_096;
 
+// The kinds of region: the image has its bytes; addressable but undefined.
+pub const FILLED: u32 = 1;
+
+pub const UNDEFINED: u32 = 2;
+
 // How many registers and output ports an instruction can name.
 pub const REGISTERS: usize = 16;
 

@@ -1,15 +1,12 @@
 // The regions of an image: their three words, the rules for them, and the filled sum.
 use super::Region;
+use super::format::FILLED;
 use super::format::REGION;
+use super::format::UNDEFINED;
 use super::words;
 ghost use mathlib.Core.Path.{_≡_};
 ghost use Prim.Native.Nat.{_<_, _^_};
 ghost use Rattle.image.specs.Regions.{regionAt, endOf, endBefore, regionOk, filledOf, filledSum};
-
-// The kinds: the image has its bytes; addressable but undefined.
-const FILLED: u32 = 1;
-
-const UNDEFINED: u32 = 2;
 
 // Region number i of a list of regions; zeros past the last.
 pub fn region_at(regions: &[u8], i: usize) -> Region

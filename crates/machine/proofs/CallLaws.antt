@@ -35,22 +35,32 @@ begin-passed : (s regs mem memV memA : List ℕ) → beginRefusal s mem memV mem
 unfolding beginAnswer
 begin-passed s regs mem memV memA e = rw e
 
+-- nothing was refused: the image is accepted, and the buffers are of M bytes
+pub record BeginAllowed (s mem memV memA : List ℕ) : Type 0 where
+  pub image : Accepted s
+  pub size : length mem ≡ fieldM s
+  pub sizeV : length memV ≡ fieldM s
+  pub sizeA : length memA ≡ fieldM s
+
+pub begin-allowed : (s mem memV memA : List ℕ) → beginRefusal s mem memV memA .number ≡ 0 → BeginAllowed s mem memV memA
+unfolding beginRefusal
+begin-allowed s mem memV memA e =
+    let rest = both-passed (refusalOf s) _ e in
+    let sizes = passed (buffersOk (fieldM s) mem memV memA) wrongSize 0 accepted (omega arith) (rest .1) .0 in
+    let size = all-three (eqb (length mem) (fieldM s)) (eqb (length memV) (fieldM s)) (eqb (length memA) (fieldM s)) sizes in
+    record { image = accepted-image s (rest .0); size = eqb-true _ _ (size .0); sizeV = eqb-true _ _ (size .1); sizeA = eqb-true _ _ (size .2) }
+
 pub record BeginAccepted (s regs mem memV memA : List ℕ) : Type 0 where
   pub image : Accepted s
   pub size : length mem ≡ fieldM s
   pub answer : beginAnswer s regs mem memV memA ≡ begunAnswer s regs mem
 
 pub begin-accepted : (s regs mem memV memA : List ℕ) → beginAnswer s regs mem memV memA .refusal .number ≡ 0 → BeginAccepted s regs mem memV memA
-unfolding beginAnswer beginRefusal
+unfolding beginAnswer
 begin-accepted s regs mem memV memA e =
     let none : beginRefusal s mem memV memA .number ≡ 0 = told (λ (r : Began). r .refusal .number) (beginRefusal s mem memV memA .number) _ _ refl e in
-    let rest = both-passed (refusalOf s) _ none in
-    let sizes = passed (buffersOk (fieldM s) mem memV memA) wrongSize 0 accepted (omega arith) (rest .1) .0 in
-    record {
-      image = accepted-image s (rest .0);
-      size = eqb-true (length mem) (fieldM s) (all-three (eqb (length mem) (fieldM s)) (eqb (length memV) (fieldM s)) (eqb (length memA) (fieldM s)) sizes .0);
-      answer = begin-passed s regs mem memV memA none;
-    }
+    let allowed = begin-allowed s mem memV memA none in
+    record { image = allowed .image; size = allowed .size; answer = begin-passed s regs mem memV memA none }
 
 pub begin-refused : (s regs mem memV memA : List ℕ) → (beginAnswer s regs mem memV memA .refusal .number ≡ 0 → ⊥)
     → beginAnswer s regs mem memV memA

@@ -61,6 +61,9 @@ abbrev pub instructionOf : Decoded → Instruction
 instructionOf (Valid instruction) = instruction
 instructionOf (Fault i) = Stop
 
--- the program of an image
+-- the program of some code, in an image of N instructions and M bytes of memory; and of an image
+abbrev pub programIn : (code : List ℕ) (n m : ℕ) → Program
+programIn code n m = record { count = n; at = λ i. instructionOf (decodeAt code i n m) }
+
 unfoldable pub programOf : List ℕ → Program
-programOf s = record { count = fieldN s; at = λ i. instructionOf (decodeAt (codePart s (fieldN s)) i (fieldN s) (fieldM s)) }
+programOf s = programIn (codePart s (fieldN s)) (fieldN s) (fieldM s)

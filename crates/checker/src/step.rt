@@ -1,0 +1,324 @@
+// One step (document 01, the table of instructions and Shadow rules): a function for each group of
+// instructions, each equal to `stepped` of its instruction. A function is lent what it touches, and
+// promises its part whatever the rest of the machine is.
+use super::Counts;
+use super::counting;
+use super::kinds;
+use super::lists;
+use super::ranges;
+use image::Instruction;
+use image::Operand;
+use image::Width;
+use rules::Data;
+use rules::Operation;
+use rules::Shadow;
+ghost use mathlib.Core.Path.{_≡_};
+ghost use mathlib.Core.Bool.{not};
+ghost use mathlib.Core.List.{List, [], _∷_};
+ghost use Prim.Native.Nat.{ℕ, _+_, _^_, _≤_, _<_};
+ghost use lib.ListN.{length, getD, set};
+ghost use Rattle.image.specs.Format.{registers};
+ghost use Rattle.image.specs.Accepted.{OperandFits, Fits};
+ghost use Rattle.image.specs.declared.Instruction.the-variants.{Stop, Move, Compute, Load, Store, Jump, Emit, Mark};
+ghost use Rattle.machine.specs.Machine.{parts};
+ghost use Rattle.machine.specs.Instructions.{operandData, addressOf};
+ghost use Rattle.machine.specs.Steps.{operandV, sameRegister, markOf, report, ifUndefined, ifBlocked};
+ghost use Rattle.machine.specs.Checker.{stepped};
+ghost use Rattle.checker.specs.Views.{world};
+ghost use Rattle.checker.specs.Pieces.{Room, Reports, Sizes};
+
+// ---- operands and registers
+// The data of B.
+fn operand(b: Operand, regs: &[u32; 16]) -> Data
+    requires { ⌜ OperandFits b ⌝ }
+    ensures { λ r. ⌜ r .0 ≡ operandData b (now (regs .entry)) ⌝ }
+{
+    match b {
+        Operand::Register(r) => Data(regs[r as usize]),
+        Operand::Literal(x) => x,
+    }
+}
+
+// V of B; a literal is fully defined.
+fn operand_v(b: Operand, shadows: &[u32; 16]) -> Shadow
+    requires { ⌜ OperandFits b ⌝ }
+    ensures { λ r. ⌜ r .0 ≡ operandV b (now (shadows .entry)) ⌝ }
+{
+    match b {
+        Operand::Register(r) => Shadow(shadows[r as usize]),
+        Operand::Literal(_) => Shadow(0),
+    }
+}
+
+// Whether a and B are the same register.
+fn same_register(a: u8, b: Operand) -> bool
+    ensures { λ r. ⌜ r ≡ sameRegister a b ⌝ }
+{
+    match b {
+        Operand::Register(r) => a == r,
+        Operand::Literal(_) => false,
+    }
+}
+
+// Register d gets data and V.
+fn set_register(d: u8, x: Data, v: Shadow, regs: &mut [u32; 16], shadows: &mut [u32; 16])
+    requires { ⌜ d < registers ⌝ }
+    ensures { λ _. ⌜ (now (regs .exit) ≡ set (now (regs .entry)) d (x .0)) × (now (shadows .exit) ≡ set (now (shadows .entry)) d (v .0)) ⌝ }
+{
+    regs[d as usize] = x.0;
+    shadows[d as usize] = v.0;
+}
+
+// Register a plus imm, modulo 4,294,967,296.
+fn address(regs: &[u32; 16], a: u8, imm: u32) -> u32
+    requires { ⌜ a < registers ⌝ }
+    ensures { λ r. ⌜ r ≡ addressOf (now (regs .entry)) a imm ⌝ }
+{
+    let sum = rules::actions::add(Data(regs[a as usize]), Data(imm));
+    sum.0
+}
+
+// ---- checks
+fn put_report(c: Counts, kind: u32, detail: u32, reports: &mut [u32]) -> Counts
+    requires { ⌜ c .reports + 1 < 2 ^ 32 ⌝ }
+    ensures { λ t. ⌜ Reports (report kind detail ∷ []) c (now (reports .entry)) t (now (reports .exit)) ⌝ }
+{
+    lists::enter_report(c, kind, detail, reports);
+    counting::note(c)
+}
+
+// If V of register a is not 0: a report, and it is set to 0.
+fn use_register(c: Counts, kind: u32, a: u8, shadows: &mut [u32; 16], reports: &mut [u32]) -> Counts
+    requires { ⌜ (c .reports + 1 < 2 ^ 32) × (a < registers) ⌝ }
+    ensures { λ t. ⌜ Reports (ifUndefined kind (getD (now (shadows .entry)) a 0)) c (now (reports .entry)) t (now (reports .exit)) ⌝ }
+    ensures { λ _. ⌜ now (shadows .exit) ≡ set (now (shadows .entry)) a 0 ⌝ }
+{
+    let v = shadows[a as usize];
+    if v == 0 {
+        return c;
+    }
+    shadows[a as usize] = 0;
+    put_report(c, kind, v, reports)
+}
+
+// If a byte of an access is unaddressable: a report.
+fn use_bytes(c: Counts, kind: u32, whole: bool, place: u32, reports: &mut [u32]) -> Counts
+    requires { ⌜ c .reports + 1 < 2 ^ 32 ⌝ }
+    ensures { λ t. ⌜ Reports (ifBlocked kind place (not whole)) c (now (reports .entry)) t (now (reports .exit)) ⌝ }
+{
+    if whole {
+        return c;
+    }
+    put_report(c, kind, place, reports)
+}
+
+// ---- the groups of instructions
+fn copy(c: Counts, d: u8, b: Operand, regs: &mut [u32; 16], shadows: &mut [u32; 16]) -> Counts
+    requires { ⌜ Room c × (d < registers) × OperandFits b ⌝ }
+    ensures { λ t. ⌜ ((mem memV memA reports outputs : List ℕ) → world t (parts (now (regs .exit)) (now (shadows .exit)) mem memV memA) reports outputs ≡ stepped (Move d b) (world c (parts (now (regs .entry)) (now (shadows .entry)) mem memV memA) reports outputs)) ⌝ }
+{
+    let x = rules::actions::mov(operand(b, regs));
+    let v = rules::shadows::mov(operand_v(b, shadows));
+    set_register(d, x, v, regs, shadows);
+    counting::next(c)
+}
+
+fn compute(
+    c: Counts,
+    op: Operation,
+    d: u8,
+    a: u8,
+    b: Operand,
+    regs: &mut [u32; 16],
+    shadows: &mut [u32; 16],
+) -> Counts
+    requires { ⌜ Room c × (d < registers) × (a < registers) × OperandFits b ⌝ }
+    ensures { λ t. ⌜ ((mem memV memA reports outputs : List ℕ) → world t (parts (now (regs .exit)) (now (shadows .exit)) mem memV memA) reports outputs ≡ stepped (Compute op d a b) (world c (parts (now (regs .entry)) (now (shadows .entry)) mem memV memA) reports outputs)) ⌝ }
+{
+    let x = Data(regs[a as usize]);
+    let v = Shadow(shadows[a as usize]);
+    let y = operand(b, regs);
+    let w = operand_v(b, shadows);
+    let z = rules::action(op, x, y);
+    let u = rules::shadow_of(op, same_register(a, b), x, v, y, w);
+    set_register(d, z, u, regs, shadows);
+    counting::next(c)
+}
+
+fn load(
+    c: Counts,
+    width: Width,
+    d: u8,
+    a: u8,
+    imm: u32,
+    regs: &mut [u32; 16],
+    shadows: &mut [u32; 16],
+    mem: &[u8],
+    vbits: &[u8],
+    abits: &[u8],
+    reports: &mut [u32],
+) -> Counts
+    requires { ⌜ Room c × (d < registers) × (a < registers) × Sizes (length (now abits)) (now mem) (now vbits) (now abits) ⌝ }
+    ensures { λ t. ⌜ ((outputs : List ℕ) → world t (parts (now (regs .exit)) (now (shadows .exit)) (now (mem .entry)) (now (vbits .entry)) (now (abits .entry))) (now (reports .exit)) outputs ≡ stepped (Load width d a imm) (world c (parts (now (regs .entry)) (now (shadows .entry)) (now (mem .entry)) (now (vbits .entry)) (now (abits .entry))) (now (reports .entry)) outputs)) ⌝ }
+{
+    let place = address(regs, a, imm);
+    let at = place as usize;
+    let whole = ranges::all_addressable(width, abits, at);
+    let t = use_register(c, kinds::UNDEFINED_ADDRESS, a, shadows, reports);
+    let x = Data(ranges::load(whole, width, abits, mem, at));
+    let v = Shadow(ranges::load(whole, width, abits, vbits, at));
+    let u = use_bytes(t, kinds::UNADDRESSABLE_LOAD, whole, place, reports);
+    set_register(d, x, v, regs, shadows);
+    counting::next(u)
+}
+
+fn store(
+    c: Counts,
+    width: Width,
+    d: u8,
+    a: u8,
+    imm: u32,
+    regs: &[u32; 16],
+    shadows: &mut [u32; 16],
+    mem: &mut [u8],
+    vbits: &mut [u8],
+    abits: &[u8],
+    reports: &mut [u32],
+) -> Counts
+    requires { ⌜ Room c × (d < registers) × (a < registers) × Sizes (length (now abits)) (now mem) (now vbits) (now abits) ⌝ }
+    ensures { λ t. ⌜ ((outputs : List ℕ) → world t (parts (now (regs .entry)) (now (shadows .exit)) (now (mem .exit)) (now (vbits .exit)) (now (abits .entry))) (now (reports .exit)) outputs ≡ stepped (Store width d a imm) (world c (parts (now (regs .entry)) (now (shadows .entry)) (now (mem .entry)) (now (vbits .entry)) (now (abits .entry))) (now (reports .entry)) outputs)) ⌝ }
+{
+    let place = address(regs, a, imm);
+    let at = place as usize;
+    let whole = ranges::all_addressable(width, abits, at);
+    let t = use_register(c, kinds::UNDEFINED_ADDRESS, a, shadows, reports);
+    let u = use_bytes(t, kinds::UNADDRESSABLE_STORE, whole, place, reports);
+    let x = Data(regs[d as usize]);
+    let v = Shadow(shadows[d as usize]);
+    ranges::store(whole, width, abits, x.0, mem, at);
+    ranges::store(whole, width, abits, v.0, vbits, at);
+    counting::next(u)
+}
+
+fn jump(
+    c: Counts,
+    a: u8,
+    target: u32,
+    regs: &[u32; 16],
+    shadows: &mut [u32; 16],
+    reports: &mut [u32],
+) -> Counts
+    requires { ⌜ Room c × (a < registers) ⌝ }
+    ensures { λ t. ⌜ ((mem memV memA outputs : List ℕ) → world t (parts (now (regs .entry)) (now (shadows .exit)) mem memV memA) (now (reports .exit)) outputs ≡ stepped (Jump a target) (world c (parts (now (regs .entry)) (now (shadows .entry)) mem memV memA) (now (reports .entry)) outputs)) ⌝ }
+{
+    let t = use_register(c, kinds::UNDEFINED_CONDITION, a, shadows, reports);
+    if regs[a as usize] == 0 {
+        return counting::next(t);
+    }
+    counting::go_to(t, target)
+}
+
+fn emit(
+    c: Counts,
+    a: u8,
+    port: u32,
+    regs: &[u32; 16],
+    shadows: &mut [u32; 16],
+    reports: &mut [u32],
+    outputs: &mut [u32],
+) -> Counts
+    requires { ⌜ Room c × (a < registers) ⌝ }
+    ensures { λ t. ⌜ ((mem memV memA : List ℕ) → world t (parts (now (regs .entry)) (now (shadows .exit)) mem memV memA) (now (reports .exit)) (now (outputs .exit)) ≡ stepped (Emit a port) (world c (parts (now (regs .entry)) (now (shadows .entry)) mem memV memA) (now (reports .entry)) (now (outputs .entry)))) ⌝ }
+{
+    let t = use_register(c, kinds::UNDEFINED_OUTPUT, a, shadows, reports);
+    let value = Data(regs[a as usize]);
+    lists::enter_output(t, port, value.0, outputs);
+    counting::put_out(t)
+}
+
+fn mark_of(addressable: bool) -> u8
+    ensures { λ r. ⌜ r ≡ markOf addressable ⌝ }
+{
+    if addressable {
+        ranges::ADDRESSABLE
+    } else {
+        ranges::UNADDRESSABLE
+    }
+}
+
+fn mark(
+    c: Counts,
+    addressable: bool,
+    start: u32,
+    size: u32,
+    vbits: &mut [u8],
+    abits: &mut [u8],
+) -> Counts
+    requires { ⌜ Room c × (start + size ≤ length (now abits)) × (length (now vbits) ≡ length (now abits)) ⌝ }
+    ensures { λ t. ⌜ ((regs regsV mem reports outputs : List ℕ) → world t (parts regs regsV mem (now (vbits .exit)) (now (abits .exit))) reports outputs ≡ stepped (Mark addressable start size) (world c (parts regs regsV mem (now (vbits .entry)) (now (abits .entry))) reports outputs)) ⌝ }
+{
+    let at = start as usize;
+    let count = size as usize;
+    ranges::fill(ranges::UNDEFINED, vbits, at, count);
+    ranges::fill(mark_of(addressable), abits, at, count);
+    counting::next(c)
+}
+
+// ---- the step
+pub fn step(
+    c: Counts,
+    i: Instruction,
+    regs: &mut [u32; 16],
+    shadows: &mut [u32; 16],
+    mem: &mut [u8],
+    vbits: &mut [u8],
+    abits: &mut [u8],
+    reports: &mut [u32],
+    outputs: &mut [u32],
+) -> Counts
+    requires { ⌜ Room c × Sizes (length (now abits)) (now mem) (now vbits) (now abits) × ((n : ℕ) × Fits n (length (now abits)) i) ⌝ }
+    ensures { λ t. ⌜ world t (parts (now (regs .exit)) (now (shadows .exit)) (now (mem .exit)) (now (vbits .exit)) (now (abits .exit))) (now (reports .exit)) (now (outputs .exit)) ≡ stepped i (world c (parts (now (regs .entry)) (now (shadows .entry)) (now (mem .entry)) (now (vbits .entry)) (now (abits .entry))) (now (reports .entry)) (now (outputs .entry))) ⌝ }
+{
+    match i {
+        Instruction::Stop => counting::next(c),
+        Instruction::Move { d, b } => copy(c, d, b, regs, shadows),
+        Instruction::Compute { op, d, a, b } => compute(c, op, d, a, b, regs, shadows),
+        Instruction::Load { width, d, a, imm } => {
+            load(
+                c,
+                width,
+                d,
+                a,
+                imm,
+                regs,
+                shadows,
+                &mem[..],
+                &vbits[..],
+                &abits[..],
+                reports,
+            )
+        }
+        Instruction::Store { width, d, a, imm } => {
+            store(
+                c,
+                width,
+                d,
+                a,
+                imm,
+                regs,
+                shadows,
+                mem,
+                vbits,
+                &abits[..],
+                reports,
+            )
+        }
+        Instruction::Jump { a, target } => jump(c, a, target, regs, shadows, reports),
+        Instruction::Emit { a, port } => emit(c, a, port, regs, shadows, reports, outputs),
+        Instruction::Mark {
+            addressable,
+            start,
+            size,
+        } => { mark(c, addressable, start, size, vbits, abits) }
+    }
+}
