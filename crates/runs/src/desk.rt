@@ -25,8 +25,8 @@ pub struct Desk {
 pub fn empty() -> Desk {
     let sizes = Sizes {
         mem: 0,
-        mem_v: 0,
-        mem_a: 0,
+        vbits: 0,
+        abits: 0,
         reports: 0,
         outputs: 0,
     };
@@ -57,8 +57,8 @@ fn lent(d: Desk, x: [u32; 5]) -> Desk {
     let mut next = d;
     let sizes = Sizes {
         mem: x[0] as usize,
-        mem_v: x[1] as usize,
-        mem_a: x[2] as usize,
+        vbits: x[1] as usize,
+        abits: x[2] as usize,
         reports: x[3] as usize,
         outputs: x[4] as usize,
     };
@@ -112,11 +112,11 @@ fn counted(d: Desk, x: [u32; 5]) -> Desk {
 fn marked(d: Desk, x: [u32; 5]) -> Desk {
     let i = x[0] as usize;
     let mut s = d.now;
-    let mut mem_a = s.mem_a;
+    let mut abits = s.abits;
     if i < series::BYTES {
-        mem_a[i] = byte(x[1], 0);
+        abits[i] = byte(x[1], 0);
     }
-    s.mem_a = mem_a;
+    s.abits = abits;
     with_now(d, s)
 }
 

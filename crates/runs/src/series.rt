@@ -19,8 +19,8 @@ pub struct Series {
     pub reason: u8,
     pub state: State,
     pub mem: [u8; BYTES],
-    pub mem_v: [u8; BYTES],
-    pub mem_a: [u8; BYTES],
+    pub vbits: [u8; BYTES],
+    pub abits: [u8; BYTES],
     pub reports: [u32; REPORTS],
     pub outputs: [u32; OUTPUTS],
 }
@@ -28,8 +28,8 @@ pub struct Series {
 // How many bytes and words a call gets: the buffers for memory, V and A, the two lists.
 pub struct Sizes {
     pub mem: usize,
-    pub mem_v: usize,
-    pub mem_a: usize,
+    pub vbits: usize,
+    pub abits: usize,
     pub reports: usize,
     pub outputs: usize,
 }
@@ -75,7 +75,7 @@ pub fn fresh() -> Series {
     };
     let state = State {
         regs: [Data(0); 16],
-        regs_v: [Shadow(0); 16],
+        shadows: [Shadow(0); 16],
         counts: counts,
     };
     let refusal = Refusal {
@@ -87,8 +87,8 @@ pub fn fresh() -> Series {
         reason: 0,
         state: state,
         mem: LEFT_OVER,
-        mem_v: [OLD_V; BYTES],
-        mem_a: [OLD_A; BYTES],
+        vbits: [OLD_V; BYTES],
+        abits: [OLD_A; BYTES],
         reports: [OLD_WORD; REPORTS],
         outputs: [OLD_WORD; OUTPUTS],
     }
@@ -119,30 +119,30 @@ fn front_words(s: &mut [u32], n: usize) -> &mut [u32] {
 pub fn begin(image: &[u8], sizes: Sizes) -> Series {
     let mut s = fresh();
     let mut mem = s.mem;
-    let mut mem_v = s.mem_v;
-    let mut mem_a = s.mem_a;
+    let mut vbits = s.vbits;
+    let mut abits = s.abits;
     let began = checker::begin(
         image,
         REGISTERS,
         front(&mut mem, sizes.mem),
-        front(&mut mem_v, sizes.mem_v),
-        front(&mut mem_a, sizes.mem_a),
+        front(&mut vbits, sizes.vbits),
+        front(&mut abits, sizes.abits),
     );
     let refusal = began.refusal;
     let state = began.state;
     s.refusal = refusal;
     s.state = state;
     s.mem = mem;
-    s.mem_v = mem_v;
-    s.mem_a = mem_a;
+    s.vbits = vbits;
+    s.abits = abits;
     s
 }
 
 // A run on the fronts of the buffers and lists.
 pub fn run(image: &[u8], s: Series, sizes: Sizes, budget: u32) -> Series {
     let mut mem = s.mem;
-    let mut mem_v = s.mem_v;
-    let mut mem_a = s.mem_a;
+    let mut vbits = s.vbits;
+    let mut abits = s.abits;
     let mut reports = s.reports;
     let mut outputs = s.outputs;
     let report_list: &mut [u32] = &mut reports;
@@ -151,8 +151,8 @@ pub fn run(image: &[u8], s: Series, sizes: Sizes, budget: u32) -> Series {
         image,
         s.state,
         front(&mut mem, sizes.mem),
-        front(&mut mem_v, sizes.mem_v),
-        front(&mut mem_a, sizes.mem_a),
+        front(&mut vbits, sizes.vbits),
+        front(&mut abits, sizes.abits),
         front_words(report_list, sizes.reports),
         front_words(output_list, sizes.outputs),
         budget,
@@ -164,8 +164,8 @@ pub fn run(image: &[u8], s: Series, sizes: Sizes, budget: u32) -> Series {
         reason: ran.reason,
         state: state,
         mem: mem,
-        mem_v: mem_v,
-        mem_a: mem_a,
+        vbits: vbits,
+        abits: abits,
         reports: reports,
         outputs: outputs,
     }

@@ -80,10 +80,10 @@ fn output_word(x: [u32; OUTPUTS], i: usize) -> u32 {
 fn state_word(s: Series, part: u8, i: usize) -> u32 {
     let state = s.state;
     let regs = state.regs;
-    let regs_v = state.regs_v;
+    let shadows = state.shadows;
     match part {
         REGS => data_at(regs, i),
-        REGS_V => shadow_at(regs_v, i),
+        REGS_V => shadow_at(shadows, i),
         _ => count_at(state.counts, i),
     }
 }
@@ -91,14 +91,14 @@ fn state_word(s: Series, part: u8, i: usize) -> u32 {
 // A word of a part; 0 past its end.
 pub fn word_at(s: Series, part: u8, i: usize) -> u32 {
     let mem = s.mem;
-    let mem_v = s.mem_v;
-    let mem_a = s.mem_a;
+    let vbits = s.vbits;
+    let abits = s.abits;
     let reports = s.reports;
     let outputs = s.outputs;
     match part {
         MEM => byte_at(mem, i),
-        MEM_V => byte_at(mem_v, i),
-        MEM_A => byte_at(mem_a, i),
+        MEM_V => byte_at(vbits, i),
+        MEM_A => byte_at(abits, i),
         REPORT_LIST => report_word(reports, i),
         OUTPUT_LIST => output_word(outputs, i),
         _ => state_word(s, part, i),
