@@ -1,4 +1,5 @@
--- What the functions inside a step ask for and promise: each touches a part of the machine.
+-- What the functions inside a step and a run ask for and promise: each touches a part of the machine. Private functions alone cite these
+-- definitions, so that nobody has to believe them: what `begin` and `run` promise is said by Views.antt and the crate `machine`.
 use Prim.Native.Nat.{ℕ, _+_, _^_, _<_, _≤_}
 use mathlib.Core.Path.{_≡_}
 use mathlib.Core.List.{List}

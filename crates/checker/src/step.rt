@@ -93,12 +93,12 @@ fn use_register(c: Counts, kind: u32, a: u8, shadows: &mut [u32; 16], reports: &
     ensures { λ t. ⌜ Reports (ifUndefined kind (getD (now (shadows .entry)) a 0)) c (now (reports .entry)) t (now (reports .exit)) ⌝ }
     ensures { λ _. ⌜ now (shadows .exit) ≡ set (now (shadows .entry)) a 0 ⌝ }
 {
-    let v = shadows[a as usize];
-    if v == 0 {
+    let v = Shadow(shadows[a as usize]);
+    if v.0 == 0 {
         return c;
     }
     shadows[a as usize] = 0;
-    put_report(c, kind, v, reports)
+    put_report(c, kind, v.0, reports)
 }
 
 // If a byte of an access is unaddressable: a report.
@@ -212,7 +212,8 @@ fn jump(
     ensures { λ t. ⌜ ((mem memV memA outputs : List ℕ) → world t (parts (now (regs .entry)) (now (shadows .exit)) mem memV memA) (now (reports .exit)) outputs ≡ stepped (Jump a target) (world c (parts (now (regs .entry)) (now (shadows .entry)) mem memV memA) (now (reports .entry)) outputs)) ⌝ }
 {
     let t = use_register(c, kinds::UNDEFINED_CONDITION, a, shadows, reports);
-    if regs[a as usize] == 0 {
+    let x = Data(regs[a as usize]);
+    if x.0 == 0 {
         return counting::next(t);
     }
     counting::go_to(t, target)

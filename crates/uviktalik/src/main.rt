@@ -9,6 +9,14 @@ use libc::STDIN_FILENO;
 use libc::STDOUT_FILENO;
 use rules::Data;
 
+// One byte more than the largest image has: whatever is longer is refused as well.
+const INPUT: usize = image::format::LARGEST + 1;
+
+// The words of the two lists, as long as they may be.
+const REPORTS: usize = limits::REPORT * limits::MOST_REPORTS;
+
+const OUTPUTS: usize = limits::OUTPUT * limits::MOST_OUTPUTS;
+
 // A number in decimal, after a text.
 fn number(s: &[u8], n: u64) {
     io::write_all(STDOUT_FILENO, s);
@@ -40,7 +48,7 @@ fn show_output(port: u32, value: u32) {
 }
 
 // The reports that have a place.
-fn show_reports(count: usize, reports: &[u32; 256]) {
+fn show_reports(count: usize, reports: &[u32; REPORTS]) {
     let mut k = 0;
     while k < limits::MOST_REPORTS {
         if count <= k {
@@ -57,7 +65,7 @@ fn show_reports(count: usize, reports: &[u32; 256]) {
     }
 }
 
-fn show_outputs(count: usize, outputs: &[u32; 512]) {
+fn show_outputs(count: usize, outputs: &[u32; OUTPUTS]) {
     let mut k = 0;
     while k < limits::MOST_OUTPUTS {
         if count <= k {
@@ -79,8 +87,8 @@ fn show_end(reason: u8, c: Counts) {
 
 // Runs a program that was begun, and shows what came of it.
 fn run(image: &[u8], state: State, mem: &mut [u8], vbits: &mut [u8], abits: &mut [u8]) {
-    let mut reports = [0; 256];
-    let mut outputs = [0; 512];
+    let mut reports = [0; REPORTS];
+    let mut outputs = [0; OUTPUTS];
     let budget = limits::MOST_STEPS;
     let ran = checker::run(
         image,
@@ -118,8 +126,7 @@ fn check(image: &[u8], m: u32, mem: &mut [u8], vbits: &mut [u8], abits: &mut [u8
 }
 
 fn main() {
-    // One byte more than the largest image has: whatever is longer is refused as well.
-    let mut input = [0u8; 8_609];
+    let mut input = [0u8; INPUT];
     let mut mem = io::buffer();
     let mut vbits = io::buffer();
     let mut abits = io::buffer();
