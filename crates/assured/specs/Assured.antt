@@ -1,5 +1,5 @@
 -- Demand 3 of the functions themselves: of whoever begins a program by `begin` and then runs it by `run`, time after time.
--- The equations are those of the contracts in src/calls.rt of the crate `checker`; the claim is that of the crate `soundness`.
+-- Of each call its contract is known (`BeginPromise`, `RunPromise` of the crate `checker`) and nothing else; the claim is that of the crate `soundness`.
 -- `assured` in proofs/Theorem.antt is the proof.
 use Prim.Native.Nat.{ℕ}
 use mathlib.Core.Path.{_≡_}
@@ -12,13 +12,13 @@ use Rattle.machine.specs.Machine.{World, programOf}
 use Rattle.machine.specs.Beginning.{Registers, Memory}
 use Rattle.machine.specs.Lists.{outputPlaces}
 use Rattle.machine.specs.Bare.{bareBegun}
-use Rattle.machine.specs.Calls.{beginAnswer, runAnswer}
 use Rattle.soundness.specs.Series.{acceptedBudgets, bareAfter}
 use Rattle.soundness.specs.Claim.{Claim}
 use Rattle.checker.specs.declared.State.{State}
 use Rattle.checker.specs.declared.Began.{Began}
 use Rattle.checker.specs.declared.Ran.{Ran}
-use Rattle.checker.specs.Views.{dataWords, worldOf, beganOf, ranOf}
+use Rattle.checker.specs.Views.{dataWords, worldOf}
+use Rattle.checker.specs.Promises.{BeginPromise, RunPromise}
 
 -- what the caller has in hand between two calls
 pub record Held : Type 0 where
@@ -34,12 +34,13 @@ heldWorld h = worldOf (h .state) (h .mem) (h .vbits) (h .abits) (h .reports) (h 
 
 -- `begin` answered b and left what is in h: its contract, and the state that goes on is the one answered
 pub record BeginCall (s : List ℕ) (regs : List Data) (mem memV memA : List ℕ) (b : Began) (h : Held) : Type 0 where
-  pub contract : beganOf b (h .mem) (h .vbits) (h .abits) ≡ beginAnswer s (dataWords regs) mem memV memA
+  pub contract : BeginPromise s regs mem memV memA b (h .mem) (h .vbits) (h .abits)
   pub goes-on : h .state ≡ b .state
 
 -- `run`, given what is in h and a budget, answered r and left what is in h′
 pub record RunCall (s : List ℕ) (h : Held) (budget : ℕ) (r : Ran) (h′ : Held) : Type 0 where
-  pub contract : ranOf r (h′ .mem) (h′ .vbits) (h′ .abits) (h′ .reports) (h′ .outputs) ≡ runAnswer s (heldWorld h) budget
+  pub contract :
+      RunPromise s (h .state) (h .mem) (h .vbits) (h .abits) (h .reports) (h .outputs) budget r (h′ .mem) (h′ .vbits) (h′ .abits) (h′ .reports) (h′ .outputs)
   pub goes-on : h′ .state ≡ r .state
 
 -- runs with these budgets, accepted or refused, lead from h to h′

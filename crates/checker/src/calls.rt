@@ -20,8 +20,9 @@ ghost use Prim.Native.Nat.{ℕ, _+_, _*_, _^_, _<_};
 ghost use lib.Dec.{leb};
 ghost use Rattle.image.specs.Refusals.{refused, headerOf};
 ghost use Rattle.machine.specs.Machine.{parts};
-ghost use Rattle.machine.specs.Calls.{mostSteps, buffersOk, listOk, marksOk, countsOk, beginRefusal, runRefusal, beginAnswer, runAnswer};
-ghost use Rattle.checker.specs.Views.{countsOf, dataWords, world, worldOf, beganOf, ranOf};
+ghost use Rattle.machine.specs.Calls.{mostSteps, buffersOk, listOk, marksOk, countsOk, beginRefusal, runRefusal};
+ghost use Rattle.checker.specs.Views.{countsOf, world};
+ghost use Rattle.checker.specs.Promises.{BeginPromise, RunPromise};
 
 // ---- the tests
 fn refuse(number: u8) -> Refusal
@@ -132,7 +133,7 @@ pub fn begin(
     vbits: &mut [u8],
     abits: &mut [u8],
 ) -> Began
-    ensures { λ r. ⌜ beganOf r (now (mem .exit)) (now (vbits .exit)) (now (abits .exit)) ≡ beginAnswer (now (image .entry)) (dataWords regs) (now (mem .entry)) (now (vbits .entry)) (now (abits .entry)) ⌝ }
+    ensures { λ r. ⌜ BeginPromise (now (image .entry)) regs (now (mem .entry)) (now (vbits .entry)) (now (abits .entry)) r (now (mem .exit)) (now (vbits .exit)) (now (abits .exit)) ⌝ }
 {
     let found = image::read(image);
     let counts = Counts {
@@ -180,7 +181,7 @@ pub fn run(
     outputs: &mut [u32],
     budget: u32,
 ) -> Ran
-    ensures { λ r. ⌜ ranOf r (now (mem .exit)) (now (vbits .exit)) (now (abits .exit)) (now (reports .exit)) (now (outputs .exit)) ≡ runAnswer (now (image .entry)) (worldOf state (now (mem .entry)) (now (vbits .entry)) (now (abits .entry)) (now (reports .entry)) (now (outputs .entry))) budget ⌝ }
+    ensures { λ r. ⌜ RunPromise (now (image .entry)) state (now (mem .entry)) (now (vbits .entry)) (now (abits .entry)) (now (reports .entry)) (now (outputs .entry)) budget r (now (mem .exit)) (now (vbits .exit)) (now (abits .exit)) (now (reports .exit)) (now (outputs .exit)) ⌝ }
 {
     let found = image::read(image);
     let counts = state.counts;

@@ -8,14 +8,27 @@ use image::refusals::ACCEPTED;
 use libc::STDIN_FILENO;
 use libc::STDOUT_FILENO;
 use rules::Data;
+ghost use mathlib.Core.Path.{_≡_};
+ghost use lib.ListN.{length};
+ghost use Rattle.image.specs.Format.{mostM};
 
 // One byte more than the largest image has: whatever is longer is refused as well.
 const INPUT: usize = image::format::LARGEST + 1;
+
+// The most memory that an image can name.
+const MEMORY: usize = image::format::MOST_M as usize;
 
 // The words of the two lists, as long as they may be.
 const REPORTS: usize = limits::REPORT * limits::MOST_REPORTS;
 
 const OUTPUTS: usize = limits::OUTPUT * limits::MOST_OUTPUTS;
+
+// As many bytes as a program can have, all zeros.
+fn zeros() -> [u8; MEMORY]
+    ensures { λ r. ⌜ mostM ≡ length r ⌝ }
+{
+    [0; MEMORY]
+}
 
 // A number in decimal, after a text.
 fn number(s: &[u8], n: u64) {
@@ -127,9 +140,9 @@ fn check(image: &[u8], m: u32, mem: &mut [u8], vbits: &mut [u8], abits: &mut [u8
 
 fn main() {
     let mut input = [0u8; INPUT];
-    let mut mem = io::buffer();
-    let mut vbits = io::buffer();
-    let mut abits = io::buffer();
+    let mut mem = zeros();
+    let mut vbits = zeros();
+    let mut abits = zeros();
     let size = io::read_full(STDIN_FILENO, &mut input);
     let image = &input[..size];
     let found = image::read(image);
