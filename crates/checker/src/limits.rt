@@ -1,4 +1,5 @@
 // The fixed numbers of a run (document 01, A run, its lists and its end; When the bench says no).
+
 // The words of a report, of an output.
 pub const REPORT: usize = 4;
 
