@@ -1,18 +1,20 @@
 -- Laws of a run: the stop reason before an instruction, and the loop's invariant.
 use Prim.Native.Nat.{ℕ, zero, suc, _+_, _-_, _/_, _≤_, _<_}
 use mathlib.Core.Path.{_≡_, refl, sym, ap, _∙_, subst}
-use mathlib.Core.Bool.{true, false, _&&_}
+use mathlib.Core.Logic.{⊎-elim}
+use mathlib.Core.Bool.{true, false, cond}
 use mathlib.Core.List.{List, [], _∷_}
 use native.Mathlib.Omega.{arith}
 use lib.ListN.{length}
-use lib.Dec.{leb}
-use borrow.Author.Tests.{lt-leb, le-leb, eq-eqb, ne-eqb}
+use lib.Dec.{eqb, leb}
+use borrow.Author.Tests.{lt-leb, le-leb}
 use types.Run.{OneOf, miss}
 use denote.Enum.Declared.{tagOf}
-use Rattle.image.proofs.Instruction.{the-type}
 use Rattle.image.specs.declared.Instruction.{Instruction}
-use Rattle.image.specs.declared.Instruction.the-variants.{Stop, Move, Compute, Load, Store, Jump, Emit, Mark}
+use Rattle.image.specs.declared.Instruction.the-variants.{Stop}
+use Rattle.rules.proofs.Bits.{lt-or-ge}
 use Rattle.image.specs.Format.{mostN}
+use Rattle.image.proofs.Tests.{apart}
 use Rattle.image.specs.Accepted.{Fits}
 use Rattle.machine.specs.Machine.{Parts, World, Program}
 use Rattle.machine.specs.Instructions.{outputsOf}
@@ -27,59 +29,77 @@ use Rattle.machine.proofs.CheckerLaws.{Goes, reason-goes}
 use Rattle.machine.proofs.ListLaws.{length-reports-entered, length-outputs-entered}
 use Rattle.machine.proofs.Continued.{step-runnable}
 use Rattle.checker.specs.declared.Counts.{Counts}
+use Rattle.checker.specs.declared.flat.Flat.{Flat}
+use Rattle.checker.specs.declared.flat.Flat.the-variants as flat
+use Rattle.checker.specs.Flat.{meaning}
+use Rattle.checker.proofs.flat.Flat.{the-type}
 use Rattle.checker.specs.Views.{world}
 use Rattle.checker.specs.Pieces.{Room, Ready}
 
 -- ---- an instruction that a match has sorted out
-pub not-stop : (i : Instruction) → OneOf (1 ∷ 2 ∷ 3 ∷ 4 ∷ 5 ∷ 6 ∷ 7 ∷ []) (tagOf the-type i) → false ≡ isStop i
-unfolding isStop
-not-stop Stop h = absurd (miss (1 ∷ 2 ∷ 3 ∷ 4 ∷ 5 ∷ 6 ∷ 7 ∷ []) 0 tt h)
-not-stop (Move d b) h = refl
-not-stop (Compute op d a b) h = refl
-not-stop (Load width d a imm) h = refl
-not-stop (Store width d a imm) h = refl
-not-stop (Jump a target) h = refl
-not-stop (Emit a port) h = refl
-not-stop (Mark addressable start size) h = refl
+-- all but STOP and EMIT
+abbrev others : List ℕ
+others = 1 ∷ 2 ∷ 3 ∷ 4 ∷ 5 ∷ 6 ∷ 7 ∷ 8 ∷ 9 ∷ 10 ∷ 11 ∷ 12 ∷ 13 ∷ 14 ∷ 15 ∷ 16 ∷ 17 ∷ 18 ∷ 19 ∷ 20 ∷ 21 ∷ 22 ∷ 23 ∷ 24 ∷ 25 ∷ 26 ∷ 27 ∷ 29 ∷ []
 
-pub not-emit : (i : Instruction) → OneOf (0 ∷ 1 ∷ 2 ∷ 3 ∷ 4 ∷ 5 ∷ 7 ∷ []) (tagOf the-type i) → false ≡ isEmit i
-unfolding isEmit
-not-emit Stop h = refl
-not-emit (Move d b) h = refl
-not-emit (Compute op d a b) h = refl
-not-emit (Load width d a imm) h = refl
-not-emit (Store width d a imm) h = refl
-not-emit (Jump a target) h = refl
-not-emit (Emit a port) h = absurd (miss (0 ∷ 1 ∷ 2 ∷ 3 ∷ 4 ∷ 5 ∷ 7 ∷ []) 6 tt h)
-not-emit (Mark addressable start size) h = refl
+pub goes-past : (i : Flat) → OneOf others (tagOf the-type i) → (false ≡ isStop (meaning i)) × (false ≡ isEmit (meaning i))
+unfolding isStop isEmit meaning
+goes-past flat.Stop h = absurd (miss others 0 tt h)
+goes-past (flat.MoveRegister d b) h = (refl, refl)
+goes-past (flat.MoveLiteral d y) h = (refl, refl)
+goes-past (flat.AddRegister d a b) h = (refl, refl)
+goes-past (flat.AddLiteral d a y) h = (refl, refl)
+goes-past (flat.SubRegister d a b) h = (refl, refl)
+goes-past (flat.SubLiteral d a y) h = (refl, refl)
+goes-past (flat.MulRegister d a b) h = (refl, refl)
+goes-past (flat.MulLiteral d a y) h = (refl, refl)
+goes-past (flat.AndRegister d a b) h = (refl, refl)
+goes-past (flat.AndLiteral d a y) h = (refl, refl)
+goes-past (flat.OrRegister d a b) h = (refl, refl)
+goes-past (flat.OrLiteral d a y) h = (refl, refl)
+goes-past (flat.XorRegister d a b) h = (refl, refl)
+goes-past (flat.XorLiteral d a y) h = (refl, refl)
+goes-past (flat.ShlRegister d a b) h = (refl, refl)
+goes-past (flat.ShlLiteral d a y) h = (refl, refl)
+goes-past (flat.ShrRegister d a b) h = (refl, refl)
+goes-past (flat.ShrLiteral d a y) h = (refl, refl)
+goes-past (flat.SarRegister d a b) h = (refl, refl)
+goes-past (flat.SarLiteral d a y) h = (refl, refl)
+goes-past (flat.EqRegister d a b) h = (refl, refl)
+goes-past (flat.EqLiteral d a y) h = (refl, refl)
+goes-past (flat.LtuRegister d a b) h = (refl, refl)
+goes-past (flat.LtuLiteral d a y) h = (refl, refl)
+goes-past (flat.Load d a width imm) h = (refl, refl)
+goes-past (flat.Store d a width imm) h = (refl, refl)
+goes-past (flat.Jump a target) h = (refl, refl)
+goes-past (flat.Emit a port) h = absurd (miss others 28 tt h)
+goes-past (flat.Mark addressable start size) h = (refl, refl)
 
 -- ---- the stop reasons, in their order
 module _ (n : ℕ) (at : ℕ → Instruction) (places left index outputs : ℕ) where
   abbrev reason : ℕ
   reason = reasonAt (record { count = n; at = at }) places left index outputs
 
-  pub past-end : n ≤ index → pastEnd ≡ reason
-  unfolding reasonAt
-  past-end h = rw (le-leb n index h) refl
+  -- at STOP, which stands at the index N too
+  pub stop-reason : (index < n → at index ≡ Stop) → cond (leb n index) pastEnd stopped ≡ reason
+  unfolding reasonAt isStop
+  stop-reason here =
+      ⊎-elim
+      (λ (below : index < n). rw (lt-leb n index below, here below) refl)
+      (λ (past : n ≤ index). rw (le-leb n index past) refl)
+      (lt-or-ge index n)
 
-  module _ (i : Instruction) (below : index < n) (here : index < n → at index ≡ i) where
-    pub at-stop : true ≡ isStop i → stopped ≡ reason
+  module _ (i : Instruction) (s : false ≡ isStop i) (here : index < n → at index ≡ i) (end : n ≤ index → i ≡ Stop) where
+    below : index < n
+    unfolding isStop
+    below = ⊎-elim (λ (l : index < n). l) (λ (past : n ≤ index). apart (sym (s ∙ ap isStop (end past)))) (lt-or-ge index n)
+
+    pub emit-reason : true ≡ isEmit i → cond (leb places outputs) noPlace (cond (eqb left 0) noBudget goesOn) ≡ reason
     unfolding reasonAt
-    at-stop s = rw (lt-leb n index below, here below, sym s) refl
+    emit-reason e = rw (lt-leb n index below, here below, sym s, sym e) refl
 
-    module _ (s : false ≡ isStop i) where
-      pub no-place : isEmit i && leb places outputs ≡ true → noPlace ≡ reason
-      unfolding reasonAt
-      no-place p = rw (lt-leb n index below, here below, sym s, p) refl
-
-      module _ (p : isEmit i && leb places outputs ≡ false) where
-        pub no-budget : left ≡ 0 → noBudget ≡ reason
-        unfolding reasonAt
-        no-budget b = rw (lt-leb n index below, here below, sym s, p, eq-eqb left 0 b) refl
-
-        pub goes-on : (left ≡ 0 → ⊥) → goesOn ≡ reason
-        unfolding reasonAt
-        goes-on b = rw (lt-leb n index below, here below, sym s, p, ne-eqb left 0 b) refl
+    pub other-reason : false ≡ isEmit i → cond (eqb left 0) noBudget goesOn ≡ reason
+    unfolding reasonAt
+    other-reason e = rw (lt-leb n index below, here below, sym s, sym e) refl
 
 -- ---- one step
 next-stepped : (program : Program) (w : World) → stepped (program .at (w .counts .index)) w ≡ nextOf program w

@@ -1,6 +1,8 @@
 // The run (document 01, A run, its lists and its end): a dispatch loop whose value is the first stop
 // reason that it meets.
 use super::Counts;
+use super::flat;
+use super::flat::Flat;
 use super::limits::OUTPUT;
 use super::reasons;
 use super::step;
@@ -8,14 +10,17 @@ use image::Decoded;
 use image::Instruction;
 use image::format::MOST_N;
 ghost use mathlib.Core.Path.{_≡_};
+ghost use mathlib.Core.Bool.{cond};
 ghost use Prim.Native.Nat.{ℕ, _≤_, _<_, _/_};
+ghost use lib.Dec.{eqb, leb};
 ghost use lib.ListN.{getD};
 ghost use Rattle.image.specs.Format.{mostN};
-ghost use Rattle.image.specs.declared.Instruction.{Instruction as AnInstruction};
-ghost use Rattle.image.specs.declared.Instruction.the-variants.{Stop};
+ghost use Rattle.image.specs.declared.Instruction.{Instruction};
 ghost use Rattle.machine.specs.Machine.{parts, programIn};
-ghost use Rattle.machine.specs.Runs.{isStop, isEmit, reasonAt, ended};
+ghost use Rattle.machine.specs.Runs.{goesOn, stopped, pastEnd, noBudget, noPlace, reasonAt, ended};
 ghost use Rattle.machine.specs.Checker.{runOf};
+ghost use Rattle.checker.specs.declared.flat.Flat.the-variants.{Stop};
+ghost use Rattle.checker.specs.Flat.{meaning};
 ghost use Rattle.checker.specs.Views.{world};
 ghost use Rattle.checker.specs.Pieces.{CodeFits, Ready};
 
@@ -38,59 +43,66 @@ fn instruction_at(code: &[u8], index: usize, n: u32, m: u32) -> Instruction
     i
 }
 
-// The instructions, decoded once.
-fn decode_all(code: &[u8], n: u32, m: u32) -> [Instruction; ENTRIES]
+// The instructions, decoded once; past the last, STOP.
+fn decode_all(code: &[u8], n: u32, m: u32) -> [Flat; ENTRIES]
     requires { ⌜ n ≤ mostN ⌝ }
-    ensures { λ r. ⌜ ((i : ℕ) → i < n → getD r i Stop ≡ programIn (now (code .entry)) n m .at i) ⌝ }
+    ensures { λ r. ⌜ ((i : ℕ) → i < n → meaning (getD r i Stop) ≡ programIn (now (code .entry)) n m .at i) ⌝ }
+    ensures { λ r. ⌜ ((i : ℕ) → n ≤ i → getD r i Stop ≡ Stop) ⌝ }
 {
-    let mut program = [Instruction::Stop; ENTRIES];
+    let mut program = [Flat::Stop; ENTRIES];
     let count = n as usize;
     let mut k = 0;
     while k < count {
-        let i = instruction_at(code, k, n, m);
+        let i = flat::flatten(instruction_at(code, k, n, m));
         program[k] = i;
         k += 1;
     }
     program
 }
 
-fn is_stop(i: Instruction) -> bool
-    ensures { λ r. ⌜ r ≡ isStop i ⌝ }
+// ---- the stop reasons
+// The last that is looked for: no budget left.
+fn out_of_budget(left: u32) -> u8
+    ensures { λ r. ⌜ r ≡ cond (eqb left 0) noBudget goesOn ⌝ }
 {
-    match i {
-        Instruction::Stop => true,
-        _ => false,
-    }
-}
-
-fn is_emit(i: Instruction) -> bool
-    ensures { λ r. ⌜ r ≡ isEmit i ⌝ }
-{
-    match i {
-        Instruction::Emit { a: _, port: _ } => true,
-        _ => false,
-    }
-}
-
-// Why a run ends before the instruction i, if it does.
-fn reason_at(i: Instruction, n: u32, places: usize, left: u32, c: Counts) -> u8
-    ensures { λ r. ⌜ ((at : ℕ → AnInstruction) → (c .index < n → at (c .index) ≡ i) → r ≡ reasonAt (record { count = n; at = at }) places left (c .index) (c .outputs)) ⌝ }
-{
-    if n <= c.index {
-        return reasons::PAST_END;
-    }
-    if is_stop(i) {
-        return reasons::STOPPED;
-    }
-    if is_emit(i) & (places <= c.outputs as usize) {
-        return reasons::NO_PLACE;
-    }
     if left == 0 {
         return reasons::NO_BUDGET;
     }
     reasons::GOES_ON
 }
 
+// At STOP; past the end there is one, too.
+fn at_stop(index: u32, n: u32) -> u8
+    ensures { λ r. ⌜ r ≡ cond (leb n index) pastEnd stopped ⌝ }
+{
+    if n <= index {
+        return reasons::PAST_END;
+    }
+    reasons::STOPPED
+}
+
+// At EMIT: no place left for its output, or no budget.
+fn at_emit(outputs: u32, places: usize, left: u32) -> u8
+    ensures { λ r. ⌜ r ≡ cond (leb places outputs) noPlace (cond (eqb left 0) noBudget goesOn) ⌝ }
+{
+    if places <= outputs as usize {
+        return reasons::NO_PLACE;
+    }
+    out_of_budget(left)
+}
+
+// Why a run ends before the instruction i, if it does.
+fn reason_at(i: Flat, n: u32, places: usize, left: u32, c: Counts) -> u8
+    ensures { λ r. ⌜ ((at : ℕ → Instruction) → (c .index < n → at (c .index) ≡ meaning i) → (n ≤ c .index → i ≡ Stop) → r ≡ reasonAt (record { count = n; at = at }) places left (c .index) (c .outputs)) ⌝ }
+{
+    match i {
+        Flat::Stop => at_stop(c.index, n),
+        Flat::Emit { a: _, port: _ } => at_emit(c.outputs, places, left),
+        _ => out_of_budget(left),
+    }
+}
+
+// ---- the loop
 pub fn run_on(
     code: &[u8],
     n: u32,

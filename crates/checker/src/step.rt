@@ -3,10 +3,10 @@
 // promises its part whatever the rest of the machine is.
 use super::Counts;
 use super::counting;
+use super::flat::Flat;
 use super::kinds;
 use super::lists;
 use super::ranges;
-use image::Instruction;
 use image::Operand;
 use image::Width;
 use rules::Data;
@@ -25,6 +25,7 @@ ghost use Rattle.machine.specs.Instructions.{operandData, addressOf};
 ghost use Rattle.machine.specs.Steps.{operandV, sameRegister, markOf, report, ifUndefined, ifBlocked};
 ghost use Rattle.machine.specs.Checker.{stepped};
 ghost use Rattle.checker.specs.Views.{world};
+ghost use Rattle.checker.specs.Flat.{meaning};
 ghost use Rattle.checker.specs.Pieces.{Room, Reports, Sizes};
 
 // ---- operands and registers
@@ -268,7 +269,7 @@ fn mark(
 // ---- the step
 pub fn step(
     c: Counts,
-    i: Instruction,
+    i: Flat,
     regs: &mut [u32; 16],
     shadows: &mut [u32; 16],
     mem: &mut [u8],
@@ -277,49 +278,243 @@ pub fn step(
     reports: &mut [u32],
     outputs: &mut [u32],
 ) -> Counts
-    requires { ⌜ Room c × Sizes (length (now abits)) (now mem) (now vbits) (now abits) × ((n : ℕ) × Fits n (length (now abits)) i) ⌝ }
-    ensures { λ t. ⌜ world t (parts (now (regs .exit)) (now (shadows .exit)) (now (mem .exit)) (now (vbits .exit)) (now (abits .exit))) (now (reports .exit)) (now (outputs .exit)) ≡ stepped i (world c (parts (now (regs .entry)) (now (shadows .entry)) (now (mem .entry)) (now (vbits .entry)) (now (abits .entry))) (now (reports .entry)) (now (outputs .entry))) ⌝ }
+    requires { ⌜ Room c × Sizes (length (now abits)) (now mem) (now vbits) (now abits) × ((n : ℕ) × Fits n (length (now abits)) (meaning i)) ⌝ }
+    ensures { λ t. ⌜ world t (parts (now (regs .exit)) (now (shadows .exit)) (now (mem .exit)) (now (vbits .exit)) (now (abits .exit))) (now (reports .exit)) (now (outputs .exit)) ≡ stepped (meaning i) (world c (parts (now (regs .entry)) (now (shadows .entry)) (now (mem .entry)) (now (vbits .entry)) (now (abits .entry))) (now (reports .entry)) (now (outputs .entry))) ⌝ }
 {
     match i {
-        Instruction::Stop => counting::next(c),
-        Instruction::Move { d, b } => copy(c, d, b, regs, shadows),
-        Instruction::Compute { op, d, a, b } => compute(c, op, d, a, b, regs, shadows),
-        Instruction::Load { width, d, a, imm } => {
-            load(
-                c,
-                width,
-                d,
-                a,
-                imm,
-                regs,
-                shadows,
-                &mem[..],
-                &vbits[..],
-                &abits[..],
-                reports,
-            )
-        }
-        Instruction::Store { width, d, a, imm } => {
-            store(
-                c,
-                width,
-                d,
-                a,
-                imm,
-                regs,
-                shadows,
-                mem,
-                vbits,
-                &abits[..],
-                reports,
-            )
-        }
-        Instruction::Jump { a, target } => jump(c, a, target, regs, shadows, reports),
-        Instruction::Emit { a, port } => emit(c, a, port, regs, shadows, reports, outputs),
-        Instruction::Mark {
+        Flat::Stop => counting::next(c),
+        Flat::MoveRegister { d, b } => copy(c, d, Operand::Register(b), regs, shadows),
+        Flat::MoveLiteral { d, y } => copy(c, d, Operand::Literal(y), regs, shadows),
+        Flat::AddRegister { d, a, b } => compute(
+            c,
+            Operation::Add,
+            d,
+            a,
+            Operand::Register(b),
+            regs,
+            shadows,
+        ),
+        Flat::AddLiteral { d, a, y } => compute(
+            c,
+            Operation::Add,
+            d,
+            a,
+            Operand::Literal(y),
+            regs,
+            shadows,
+        ),
+        Flat::SubRegister { d, a, b } => compute(
+            c,
+            Operation::Sub,
+            d,
+            a,
+            Operand::Register(b),
+            regs,
+            shadows,
+        ),
+        Flat::SubLiteral { d, a, y } => compute(
+            c,
+            Operation::Sub,
+            d,
+            a,
+            Operand::Literal(y),
+            regs,
+            shadows,
+        ),
+        Flat::MulRegister { d, a, b } => compute(
+            c,
+            Operation::Mul,
+            d,
+            a,
+            Operand::Register(b),
+            regs,
+            shadows,
+        ),
+        Flat::MulLiteral { d, a, y } => compute(
+            c,
+            Operation::Mul,
+            d,
+            a,
+            Operand::Literal(y),
+            regs,
+            shadows,
+        ),
+        Flat::AndRegister { d, a, b } => compute(
+            c,
+            Operation::And,
+            d,
+            a,
+            Operand::Register(b),
+            regs,
+            shadows,
+        ),
+        Flat::AndLiteral { d, a, y } => compute(
+            c,
+            Operation::And,
+            d,
+            a,
+            Operand::Literal(y),
+            regs,
+            shadows,
+        ),
+        Flat::OrRegister { d, a, b } => compute(
+            c,
+            Operation::Or,
+            d,
+            a,
+            Operand::Register(b),
+            regs,
+            shadows,
+        ),
+        Flat::OrLiteral { d, a, y } => compute(
+            c,
+            Operation::Or,
+            d,
+            a,
+            Operand::Literal(y),
+            regs,
+            shadows,
+        ),
+        Flat::XorRegister { d, a, b } => compute(
+            c,
+            Operation::Xor,
+            d,
+            a,
+            Operand::Register(b),
+            regs,
+            shadows,
+        ),
+        Flat::XorLiteral { d, a, y } => compute(
+            c,
+            Operation::Xor,
+            d,
+            a,
+            Operand::Literal(y),
+            regs,
+            shadows,
+        ),
+        Flat::ShlRegister { d, a, b } => compute(
+            c,
+            Operation::Shl,
+            d,
+            a,
+            Operand::Register(b),
+            regs,
+            shadows,
+        ),
+        Flat::ShlLiteral { d, a, y } => compute(
+            c,
+            Operation::Shl,
+            d,
+            a,
+            Operand::Literal(y),
+            regs,
+            shadows,
+        ),
+        Flat::ShrRegister { d, a, b } => compute(
+            c,
+            Operation::Shr,
+            d,
+            a,
+            Operand::Register(b),
+            regs,
+            shadows,
+        ),
+        Flat::ShrLiteral { d, a, y } => compute(
+            c,
+            Operation::Shr,
+            d,
+            a,
+            Operand::Literal(y),
+            regs,
+            shadows,
+        ),
+        Flat::SarRegister { d, a, b } => compute(
+            c,
+            Operation::Sar,
+            d,
+            a,
+            Operand::Register(b),
+            regs,
+            shadows,
+        ),
+        Flat::SarLiteral { d, a, y } => compute(
+            c,
+            Operation::Sar,
+            d,
+            a,
+            Operand::Literal(y),
+            regs,
+            shadows,
+        ),
+        Flat::EqRegister { d, a, b } => compute(
+            c,
+            Operation::Eq,
+            d,
+            a,
+            Operand::Register(b),
+            regs,
+            shadows,
+        ),
+        Flat::EqLiteral { d, a, y } => compute(
+            c,
+            Operation::Eq,
+            d,
+            a,
+            Operand::Literal(y),
+            regs,
+            shadows,
+        ),
+        Flat::LtuRegister { d, a, b } => compute(
+            c,
+            Operation::Ltu,
+            d,
+            a,
+            Operand::Register(b),
+            regs,
+            shadows,
+        ),
+        Flat::LtuLiteral { d, a, y } => compute(
+            c,
+            Operation::Ltu,
+            d,
+            a,
+            Operand::Literal(y),
+            regs,
+            shadows,
+        ),
+        Flat::Load { d, a, width, imm } => load(
+            c,
+            width,
+            d,
+            a,
+            imm,
+            regs,
+            shadows,
+            &mem[..],
+            &vbits[..],
+            &abits[..],
+            reports,
+        ),
+        Flat::Store { d, a, width, imm } => store(
+            c,
+            width,
+            d,
+            a,
+            imm,
+            regs,
+            shadows,
+            mem,
+            vbits,
+            &abits[..],
+            reports,
+        ),
+        Flat::Jump { a, target } => jump(c, a, target, regs, shadows, reports),
+        Flat::Emit { a, port } => emit(c, a, port, regs, shadows, reports, outputs),
+        Flat::Mark {
             addressable,
             start,
             size,
-        } => { mark(c, addressable, start, size, vbits, abits) }
+        } => mark(c, addressable, start, size, vbits, abits),
     }
 }

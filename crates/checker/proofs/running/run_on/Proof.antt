@@ -30,14 +30,14 @@ run-on-spec =
     (λ c κs. (
       room _ _ _ _ _ _ _ _ _ (c .before .before .before .before .before .before .before .before .before .before .before .loop .inv) (c .before .before .before .before .before .before .before .before .before .before .before .before .before .before .before .before .before .before .before .pre .0),
       record { size = c .before .before .before .before .before .before .before .before .before .before .before .loop .inv .runnable .mem ∙ sym (c .before .before .before .before .before .before .before .before .before .before .before .loop .inv .runnable .memA); sizeV = c .before .before .before .before .before .before .before .before .before .before .before .loop .inv .runnable .memV ∙ sym (c .before .before .before .before .before .before .before .before .before .before .before .loop .inv .runnable .memA); sizeA = refl },
-      (c .before .before .before .before .before .before .before .before .before .before .before .before .before .before .before .before .before .before .before .args .n, fits-here _ _ _ _ _ _ (c .before .before .before .before .before .before .before .before .before .before .before .loop .inv) _ _ refl (c .before .before .before .before .before .before .before .before .reason-at .ensures _ (λ h. sym (c .before .before .before .before .before .before .before .before .before .before .before .before .decode-all .ensures _ h))) (c .before .before .before .before .before .before .before .if1 .left) (c .before .before .before .before .before .before .before .before .before .before .before .before .before .before .before .before .before .before .before .pre .1) _ (sym (c .before .before .before .before .before .before .before .before .before .before .before .before .decode-all .ensures _ ((goes-here _ _ _ _ _ _ (c .before .before .before .before .before .before .before .before .before .before .before .loop .inv) _ _ refl (c .before .before .before .before .before .before .before .before .reason-at .ensures _ (λ h. sym (c .before .before .before .before .before .before .before .before .before .before .before .before .decode-all .ensures _ h))) (c .before .before .before .before .before .before .before .if1 .left)) .before-end)))),
+      (c .before .before .before .before .before .before .before .before .before .before .before .before .before .before .before .before .before .before .before .args .n, fits-here _ _ _ _ _ _ (c .before .before .before .before .before .before .before .before .before .before .before .loop .inv) _ _ refl (c .before .before .before .before .before .before .before .before .reason-at .ensures _ (λ h. sym (c .before .before .before .before .before .before .before .before .before .before .before .before .decode-all .ensures .0 _ h)) (c .before .before .before .before .before .before .before .before .before .before .before .before .decode-all .ensures .1 _)) (c .before .before .before .before .before .before .before .if1 .left) (c .before .before .before .before .before .before .before .before .before .before .before .before .before .before .before .before .before .before .before .pre .1) _ (sym (c .before .before .before .before .before .before .before .before .before .before .before .before .decode-all .ensures .0 _ ((goes-here _ _ _ _ _ _ (c .before .before .before .before .before .before .before .before .before .before .before .loop .inv) _ _ refl (c .before .before .before .before .before .before .before .before .reason-at .ensures _ (λ h. sym (c .before .before .before .before .before .before .before .before .before .before .before .before .decode-all .ensures .0 _ h)) (c .before .before .before .before .before .before .before .before .before .before .before .before .decode-all .ensures .1 _)) (c .before .before .before .before .before .before .before .if1 .left)) .before-end)))),
     ))
-    (λ c. (goes-here _ _ _ _ _ _ (c .before .before .before .before .before .before .before .before .before .before .before .before .before .before .before .before .before .before .before .before .before .before .loop .inv) _ _ refl (c .before .before .before .before .before .before .before .before .before .before .before .before .before .before .before .before .before .before .before .reason-at .ensures _ (λ h. sym (c .before .before .before .before .before .before .before .before .before .before .before .before .before .before .before .before .before .before .before .before .before .before .before .decode-all .ensures _ h))) (c .before .before .before .before .before .before .before .before .before .before .before .before .before .before .before .before .before .before .if1 .left)) .has-budget)
-    (λ c. omega (arith, (goes-here _ _ _ _ _ _ (c .before .before .before .before .before .before .before .before .before .before .before .before .before .before .before .before .before .before .before .before .before .before .loop .inv) _ _ refl (c .before .before .before .before .before .before .before .before .before .before .before .before .before .before .before .before .before .before .before .reason-at .ensures _ (λ h. sym (c .before .before .before .before .before .before .before .before .before .before .before .before .before .before .before .before .before .before .before .before .before .before .before .decode-all .ensures _ h))) (c .before .before .before .before .before .before .before .before .before .before .before .before .before .before .before .before .before .before .if1 .left)) .has-budget))
-    (λ c. goes-further _ _ _ _ _ _ (c .before .before .before .before .before .before .before .before .before .before .before .before .before .before .before .before .before .before .before .before .before .before .loop .inv) _ _ refl (c .before .before .before .before .before .before .before .before .before .before .before .before .before .before .before .before .before .before .before .reason-at .ensures _ (λ h. sym (c .before .before .before .before .before .before .before .before .before .before .before .before .before .before .before .before .before .before .before .before .before .before .before .decode-all .ensures _ h))) (c .before .before .before .before .before .before .before .before .before .before .before .before .before .before .before .before .before .before .if1 .left) (c .before .before .before .before .before .before .before .before .before .before .before .before .before .before .before .before .before .before .before .before .before .before .before .before .before .before .before .before .before .before .pre .1) _ (sym (c .before .before .before .before .before .before .before .before .before .before .before .before .before .before .before .before .before .before .before .before .before .before .before .decode-all .ensures _ ((goes-here _ _ _ _ _ _ (c .before .before .before .before .before .before .before .before .before .before .before .before .before .before .before .before .before .before .before .before .before .before .loop .inv) _ _ refl (c .before .before .before .before .before .before .before .before .before .before .before .before .before .before .before .before .before .before .before .reason-at .ensures _ (λ h. sym (c .before .before .before .before .before .before .before .before .before .before .before .before .before .before .before .before .before .before .before .before .before .before .before .decode-all .ensures _ h))) (c .before .before .before .before .before .before .before .before .before .before .before .before .before .before .before .before .before .before .if1 .left)) .before-end))) _ (c .before .before .before .before .before .before .before .before .before .before .step .ensures))
+    (λ c. (goes-here _ _ _ _ _ _ (c .before .before .before .before .before .before .before .before .before .before .before .before .before .before .before .before .before .before .before .before .before .before .loop .inv) _ _ refl (c .before .before .before .before .before .before .before .before .before .before .before .before .before .before .before .before .before .before .before .reason-at .ensures _ (λ h. sym (c .before .before .before .before .before .before .before .before .before .before .before .before .before .before .before .before .before .before .before .before .before .before .before .decode-all .ensures .0 _ h)) (c .before .before .before .before .before .before .before .before .before .before .before .before .before .before .before .before .before .before .before .before .before .before .before .decode-all .ensures .1 _)) (c .before .before .before .before .before .before .before .before .before .before .before .before .before .before .before .before .before .before .if1 .left)) .has-budget)
+    (λ c. omega (arith, (goes-here _ _ _ _ _ _ (c .before .before .before .before .before .before .before .before .before .before .before .before .before .before .before .before .before .before .before .before .before .before .loop .inv) _ _ refl (c .before .before .before .before .before .before .before .before .before .before .before .before .before .before .before .before .before .before .before .reason-at .ensures _ (λ h. sym (c .before .before .before .before .before .before .before .before .before .before .before .before .before .before .before .before .before .before .before .before .before .before .before .decode-all .ensures .0 _ h)) (c .before .before .before .before .before .before .before .before .before .before .before .before .before .before .before .before .before .before .before .before .before .before .before .decode-all .ensures .1 _)) (c .before .before .before .before .before .before .before .before .before .before .before .before .before .before .before .before .before .before .if1 .left)) .has-budget))
+    (λ c. goes-further _ _ _ _ _ _ (c .before .before .before .before .before .before .before .before .before .before .before .before .before .before .before .before .before .before .before .before .before .before .loop .inv) _ _ refl (c .before .before .before .before .before .before .before .before .before .before .before .before .before .before .before .before .before .before .before .reason-at .ensures _ (λ h. sym (c .before .before .before .before .before .before .before .before .before .before .before .before .before .before .before .before .before .before .before .before .before .before .before .decode-all .ensures .0 _ h)) (c .before .before .before .before .before .before .before .before .before .before .before .before .before .before .before .before .before .before .before .before .before .before .before .decode-all .ensures .1 _)) (c .before .before .before .before .before .before .before .before .before .before .before .before .before .before .before .before .before .before .if1 .left) (c .before .before .before .before .before .before .before .before .before .before .before .before .before .before .before .before .before .before .before .before .before .before .before .before .before .before .before .before .before .before .pre .1) _ (sym (c .before .before .before .before .before .before .before .before .before .before .before .before .before .before .before .before .before .before .before .before .before .before .before .decode-all .ensures .0 _ ((goes-here _ _ _ _ _ _ (c .before .before .before .before .before .before .before .before .before .before .before .before .before .before .before .before .before .before .before .before .before .before .loop .inv) _ _ refl (c .before .before .before .before .before .before .before .before .before .before .before .before .before .before .before .before .before .before .before .reason-at .ensures _ (λ h. sym (c .before .before .before .before .before .before .before .before .before .before .before .before .before .before .before .before .before .before .before .before .before .before .before .decode-all .ensures .0 _ h)) (c .before .before .before .before .before .before .before .before .before .before .before .before .before .before .before .before .before .before .before .before .before .before .before .decode-all .ensures .1 _)) (c .before .before .before .before .before .before .before .before .before .before .before .before .before .before .before .before .before .before .if1 .left)) .before-end))) _ (c .before .before .before .before .before .before .before .before .before .before .step .ensures))
     (λ c. c .before .before .before .before .loop .inv .runnable .mem ∙ sym (c .before .before .before .before .before .before .before .before .before .before .before .before .pre .2 .runnable .mem))
     (λ c. c .before .before .before .before .loop .inv .runnable .memV ∙ sym (c .before .before .before .before .before .before .before .before .before .before .before .before .pre .2 .runnable .memV))
     (λ c. c .before .before .before .before .loop .inv .runnable .memA ∙ sym (c .before .before .before .before .before .before .before .before .before .before .before .before .pre .2 .runnable .memA))
     (λ c. c .before .before .before .before .loop .inv .reports)
     (λ c. c .before .before .before .before .loop .inv .outputs)
-    (λ c. ends _ _ _ _ _ _ (c .before .before .before .before .loop .inv) _ _ refl (c .before .reason-at .ensures _ (λ h. sym (c .before .before .before .before .before .decode-all .ensures _ h))) (c .if1 .taken)))
+    (λ c. ends _ _ _ _ _ _ (c .before .before .before .before .loop .inv) _ _ refl (c .before .reason-at .ensures _ (λ h. sym (c .before .before .before .before .before .decode-all .ensures .0 _ h)) (c .before .before .before .before .before .decode-all .ensures .1 _)) (c .if1 .taken)))

@@ -1,0 +1,14 @@
+use borrow.Author.Needs.{needs}
+use Prim.Native.Nat.{_-_}
+use mathlib.Core.Path.{refl}
+use borrow.Author.Tests.{lt-leb, le-leb, eq-eqb, ne-eqb}
+use Rattle.checker.proofs.running.at_emit.Statement.{statement}
+use Rattle.checker.proofs.running.at_emit.Tie as tie
+
+pub at-emit-spec : {M : Type 1} → statement M
+at-emit-spec =
+    tie.close
+    (tie.spec
+    (λ c. rw (le-leb _ _ (c .if1 .taken)) refl)
+    (λ c κs. search needs)
+    (λ c. rw (lt-leb _ _ (c .before .if1 .left)) (c .out-of-budget .ensures)))
