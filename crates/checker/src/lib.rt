@@ -15,7 +15,7 @@ mod flat; // flat.rt: the form of an instruction that a run steps through
 mod kinds; // kinds.rt: the kinds of report
 mod lists; // lists.rt: the two lists
 mod ranges; // ranges.rt: ranges of bytes
-mod registers; // registers.rt: registers as plain words
+pub mod registers; // registers.rt: registers as plain words
 mod running; // running.rt: the run
 mod step; // step.rt: one step
 

@@ -1,0 +1,129 @@
+//! Document 01's bare machine: the image run on data alone, with no V bits and no reports.
+//! It is only ever given an image that the machine accepted.
+
+/// The most outputs a machine has places for.
+const MOST_OUTPUTS: usize = 256;
+
+/// The answer of a run that trapped.
+const TRAPPED: u32 = 6;
+
+pub struct Bare {
+    pub regs: [u32; 16],
+    pub mem: Vec<u8>,
+    pub open: Vec<bool>,
+    pub index: u32,
+    pub steps: u32,
+    pub outputs: Vec<(u32, u32)>,
+}
+
+/// The little-endian word at a byte offset.
+fn number(bytes: &[u8], at: usize) -> usize {
+    u32::from_le_bytes([bytes[at], bytes[at + 1], bytes[at + 2], bytes[at + 3]]) as usize
+}
+
+impl Bare {
+    /// `mem` is the machine's own M bytes, as handed in.
+    pub fn begin(image: &[u8], regs: &[u32; 16], mem: &[u8]) -> Bare {
+        let mut bare = Bare {
+            regs: *regs,
+            mem: mem.to_vec(),
+            open: vec![false; mem.len()],
+            index: 0,
+            steps: 0,
+            outputs: Vec::with_capacity(MOST_OUTPUTS),
+        };
+        let (regions, mut data) = (number(image, 20), number(image, 28));
+        for entry in image[regions..data].chunks_exact(12) {
+            let (start, length, kind) = (number(entry, 0), number(entry, 4), number(entry, 8));
+            let end = start + length;
+            bare.open[start..end].fill(true);
+            if kind == 1 {
+                bare.mem[start..end].copy_from_slice(&image[data..data + length]);
+                data += length;
+            }
+        }
+        bare
+    }
+
+    /// The stop reason, or 6 if it traps, with the state before that step.
+    pub fn run(&mut self, image: &[u8], places: usize, budget: u32) -> u32 {
+        let (code, _) = image[32..number(image, 20)].as_chunks::<8>();
+        let mut budget = budget;
+        loop {
+            let Some(instruction) = code.get(self.index as usize) else {
+                return 2;
+            };
+            match instruction[0] {
+                0 => return 1,
+                18 if self.outputs.len() >= places => return 4,
+                _ if budget == 0 => return 3,
+                _ => {}
+            }
+            if !self.step(instruction) {
+                return TRAPPED;
+            }
+            budget -= 1;
+        }
+    }
+
+    /// One step; false, with nothing changed, if it traps.
+    fn step(&mut self, instruction: &[u8; 8]) -> bool {
+        let [op, d, a, b, imm @ ..] = *instruction;
+        let (d, a) = (usize::from(d), usize::from(a));
+        let imm = u32::from_le_bytes(imm);
+        let first = self.regs[a];
+        let second = if b == 255 { imm } else { self.regs[usize::from(b)] };
+        let mut next = self.index + 1;
+        match op {
+            1 => self.regs[d] = second,
+            2 => self.regs[d] = first.wrapping_add(second),
+            3 => self.regs[d] = first.wrapping_sub(second),
+            4 => self.regs[d] = first.wrapping_mul(second),
+            5 => self.regs[d] = first & second,
+            6 => self.regs[d] = first | second,
+            7 => self.regs[d] = first ^ second,
+            8 => self.regs[d] = first << (second % 32),
+            9 => self.regs[d] = first >> (second % 32),
+            10 => self.regs[d] = ((first as i32) >> (second % 32)) as u32,
+            11 => self.regs[d] = u32::from(first == second),
+            12 => self.regs[d] = u32::from(first < second),
+            13..=16 => {
+                let size = if op == 13 || op == 15 { 1 } else { 4 };
+                let Some(at) = self.access(first.wrapping_add(imm), size) else {
+                    return false;
+                };
+                match op {
+                    13 => self.regs[d] = u32::from(self.mem[at]),
+                    14 => self.regs[d] = number(&self.mem, at) as u32,
+                    15 => self.mem[at] = self.regs[d] as u8,
+                    _ => self.mem[at..at + 4].copy_from_slice(&self.regs[d].to_le_bytes()),
+                }
+            }
+            17 => {
+                if first != 0 {
+                    next = imm;
+                }
+            }
+            18 => self.outputs.push((imm, first)),
+            _ => {
+                let start = (imm & 0xFFFF) as usize;
+                let length = (imm >> 16) as usize;
+                self.open[start..start + length].fill(op == 19);
+            }
+        }
+        self.index = next;
+        self.steps += 1;
+        true
+    }
+
+    /// Where an access begins, if every byte of it is within memory and open.
+    fn access(&self, address: u32, size: u64) -> Option<usize> {
+        let first = u64::from(address);
+        if first + size > self.mem.len() as u64 {
+            return None;
+        }
+        let at = address as usize;
+        let every = self.open[at..at + size as usize].iter().all(|&open| open);
+        every.then_some(at)
+    }
+}

@@ -1,0 +1,287 @@
+//! Demand 3 tried from outside: the checker and the bare machine side by side, with other leftovers.
+
+use std::fmt;
+
+use crate::bare::Bare;
+use crate::calls::{self, Answer};
+use crate::cases::{self, Budget, Call, Desk};
+use crate::clean;
+use crate::edges;
+use crate::guard::guarded;
+use crate::images::{hex, Image};
+use crate::prng::Prng;
+use crate::programs::{self, Maker};
+use crate::types::Engine;
+
+const STREAM: u64 = 2;
+/// Calls after which a series is long enough.
+const MOST_CALLS: u32 = 1200;
+/// Calls after which a series is given up that no run has been accepted in.
+const MOST_REFUSED: u32 = 20;
+/// The bare machine's answer when it traps.
+const TRAPPED: u32 = 6;
+/// Calls after the first report, to see that the count of reports does not go back to 0.
+const MOST_REPORTED: u32 = 3;
+/// A program is counted under the highest of these step counts that it reached without a report.
+const STEP_MARKS: [u32; 5] = [0, 1, 12, 48, 200];
+
+const ANY_PROGRAM: [Maker; 6] = [
+    programs::straight,
+    programs::loops,
+    programs::accesses,
+    programs::ranges,
+    programs::jumps,
+    programs::legal,
+];
+
+/// What was tried, to show that the claim was not empty.
+#[derive(Default)]
+pub struct Tally {
+    pub programs: u64,
+    pub looks: u64,
+    /// Looks at which undefined bits differ between the two machines.
+    differing: u64,
+    clean: [u64; STEP_MARKS.len()],
+    stopped_by_report: [u64; STEP_MARKS.len()],
+    refused: u64,
+    outputs: u64,
+}
+
+impl Tally {
+    pub fn add(&mut self, other: &Tally) {
+        self.programs += other.programs;
+        self.looks += other.looks;
+        self.differing += other.differing;
+        self.refused += other.refused;
+        self.outputs += other.outputs;
+        for mark in 0..STEP_MARKS.len() {
+            self.clean[mark] += other.clean[mark];
+            self.stopped_by_report[mark] += other.stopped_by_report[mark];
+        }
+    }
+
+    fn close(&mut self, pair: &Pair) {
+        let reached = STEP_MARKS.partition_point(|&mark| mark <= pair.clean_steps) - 1;
+        self.programs += 1;
+        if pair.desk.state.reports > 0 {
+            self.stopped_by_report[reached] += 1;
+        } else {
+            self.clean[reached] += 1;
+            self.outputs += u64::from(pair.desk.state.outputs);
+        }
+    }
+
+    /// Is there enough behind the claim: programs clean for dozens of steps, undefined bits that differ?
+    pub fn is_empty(&self) -> bool {
+        let dozens: u64 = self.clean[3..].iter().sum();
+        dozens < self.programs / 8 || self.differing < self.looks / 2 || self.outputs == 0
+    }
+
+    pub fn table(&self) -> String {
+        let by_steps = |counts: &[u64]| {
+            let pairs = STEP_MARKS.iter().zip(counts);
+            let pairs: Vec<String> =
+                pairs.map(|(mark, count)| format!("{mark}+ steps: {count}")).collect();
+            pairs.join(", ")
+        };
+        format!(
+            "programs that ran clean, by steps: {}\n\
+             programs stopped by a report, by clean steps before it: {}\n\
+             looks at both machines: {}, of them {} with undefined bits that differ\n\
+             refused runs among them: {}; outputs of clean programs: {}\n",
+            by_steps(&self.clean),
+            by_steps(&self.stopped_by_report),
+            self.looks,
+            self.differing,
+            self.refused,
+            self.outputs
+        )
+    }
+}
+
+/// A clause of the claim that does not hold.
+pub struct Broken {
+    seed: u64,
+    case: u64,
+    image: String,
+    steps: u32,
+    clause: String,
+}
+
+impl fmt::Display for Broken {
+    fn fmt(&self, out: &mut fmt::Formatter) -> fmt::Result {
+        writeln!(out, "claim broken: --seed {} --claim {}", self.seed, self.case)?;
+        writeln!(out, "  image {}", self.image)?;
+        write!(out, "  after {} steps: {}", self.steps, self.clause)
+    }
+}
+
+struct Pair<'a> {
+    checker: &'a Engine,
+    desk: Desk,
+    bare: Bare,
+    trapped: bool,
+    clean_steps: u32,
+}
+
+/// Bits that differ, those with V 0 and those with V 1.
+fn split(left: u32, right: u32, shadow: u32) -> (u32, u32) {
+    let differing = left ^ right;
+    (differing & !shadow, differing & shadow)
+}
+
+impl Pair<'_> {
+    fn begin<'a>(checker: &'a Engine, image: &Image, prng: &mut Prng) -> Result<Pair<'a>, String> {
+        let mut desk = cases::desk(prng, image.bytes(), image.m);
+        if prng.one_in(16) {
+            std::mem::swap(&mut desk.lists, &mut desk.spare);
+        }
+        let registers = cases::registers(prng, image.m);
+        let opposite = prng.one_in(2);
+        let mut other = registers.map(|word| if opposite { !word } else { prng.word() });
+        other[15] = registers[15];
+        let leftovers: Vec<u8> =
+            desk.mem.iter().map(|&byte| if opposite { !byte } else { prng.byte() }).collect();
+        match calls::make(checker, &mut desk, Call::Begin(registers)) {
+            Answer::Begun(began) if began.number == 0 => {}
+            Answer::Panicked(message) => return Err(format!("the beginning {message}")),
+            _ => return Err("the beginning was refused".to_string()),
+        }
+        let bare = guarded(|| Bare::begin(&desk.image, &other, &leftovers))?;
+        Ok(Pair { checker, desk, bare, trapped: false, clean_steps: 0 })
+    }
+
+    /// A run on the checker and, unless refused, on the bare machine; the two stop reasons.
+    fn run(&mut self, budget: Budget) -> Result<Option<[u32; 2]>, String> {
+        let budget = budget.after(self.desk.state.steps);
+        let call = Call::Run(Budget::Exactly(budget));
+        match calls::make(self.checker, &mut self.desk, call) {
+            Answer::Ran(ran) if ran.number == 0 => {
+                let places = self.desk.lists.outputs.len() / 2;
+                let reason = guarded(|| self.bare.run(&self.desk.image, places, budget))?;
+                self.trapped |= reason == TRAPPED;
+                Ok(Some([ran.reason, reason]))
+            }
+            Answer::Panicked(message) => Err(format!("the run {message}")),
+            _ => Ok(None),
+        }
+    }
+
+    /// The claim's clauses after a step, while no report is made.
+    fn look(&mut self, tally: &mut Tally) -> Result<(), String> {
+        let (state, bare) = (&self.desk.state, &self.bare);
+        let same = |what: &str, left: u32, right: u32| match left == right {
+            true => Ok(()),
+            false => Err(format!("{what}: checker {left:#x}, bare machine {right:#x}")),
+        };
+        if self.trapped {
+            return Err(format!("the bare machine trapped at its step {}", bare.steps));
+        }
+        same("steps taken", state.steps, bare.steps)?;
+        same("index", state.index, bare.index)?;
+        same("outputs made", state.outputs, bare.outputs.len() as u32)?;
+        let listed = self.desk.lists.outputs.chunks_exact(2);
+        for (k, (listed, &(port, value))) in listed.zip(&bare.outputs).enumerate() {
+            same(&format!("port of output {k}"), listed[0], port)?;
+            same(&format!("value of output {k}"), listed[1], value)?;
+        }
+        let unlike = self.registers()? | self.memory()?;
+        self.clean_steps = state.steps;
+        tally.looks += 1;
+        tally.differing += u64::from(unlike != 0);
+        Ok(())
+    }
+
+    /// The undefined bits that differ, or the clause on defined bits.
+    fn registers(&self) -> Result<u32, String> {
+        let state = &self.desk.state;
+        let mut unlike = 0;
+        for (k, &theirs) in self.bare.regs.iter().enumerate() {
+            let (wrong, free) = split(state.regs[k], theirs, state.vregs[k]);
+            if wrong != 0 {
+                return Err(format!("register {k}: its defined bits {wrong:#x} differ"));
+            }
+            unlike |= free;
+        }
+        Ok(unlike)
+    }
+
+    fn memory(&self) -> Result<u32, String> {
+        let desk = &self.desk;
+        let mut unlike = 0;
+        for (k, &open) in self.bare.open.iter().enumerate() {
+            if open != (desk.a[k] == 1) {
+                return Err(format!("byte {k}: A is {}, the bare mark is {open}", desk.a[k]));
+            }
+            let [ours, theirs, shadow] = [desk.mem[k], self.bare.mem[k], desk.v[k]].map(u32::from);
+            let (wrong, free) = split(ours, theirs, shadow);
+            if open && wrong != 0 {
+                return Err(format!("byte {k}: its defined bits {wrong:#x} differ"));
+            }
+            unlike |= if open { free } else { 0 };
+        }
+        Ok(unlike)
+    }
+
+    /// Runs until the program has ended twice, reports are made or it is long enough.
+    fn series(&mut self, prng: &mut Prng, tally: &mut Tally) -> Result<(), String> {
+        let step_by_step = !prng.one_in(4);
+        let (mut ends, mut reported, mut accepted) = (0, 0, false);
+        self.look(tally)?;
+        for calls in 0..MOST_CALLS {
+            let reasons = self.run(budget(prng, step_by_step))?;
+            accepted |= reasons.is_some();
+            if self.desk.state.reports > 0 {
+                reported += 1;
+            } else {
+                self.look(tally)?;
+                ends += u32::from(self.ended(reasons, tally)?);
+            }
+            if ends == 2 || reported > MOST_REPORTED || (!accepted && calls > MOST_REFUSED) {
+                break;
+            }
+        }
+        Ok(())
+    }
+
+    /// The claim's clause after a run: equal stop reasons. Did the program end?
+    fn ended(&self, reasons: Option<[u32; 2]>, tally: &mut Tally) -> Result<bool, String> {
+        match reasons {
+            Some([ours, theirs]) if ours != theirs => {
+                Err(format!("stop reason: checker {ours}, bare machine {theirs}"))
+            }
+            Some([reason, _]) => Ok(reason != 3),
+            None => {
+                tally.refused += 1;
+                Ok(false)
+            }
+        }
+    }
+}
+
+fn budget(prng: &mut Prng, step_by_step: bool) -> Budget {
+    match prng.below(24) {
+        0 | 1 => Budget::Reaching(edges::MOST_STEPS + 1),
+        2 => Budget::Exactly(0),
+        _ if step_by_step => Budget::Exactly(1),
+        _ => Budget::Exactly(prng.pick(&[1, 2, 3, 5, 17, 100])),
+    }
+}
+
+/// Claim case k, a program made to run clean or, one time in four, any program.
+pub fn try_case(checker: &Engine, seed: u64, number: u64, tally: &mut Tally) -> Option<Broken> {
+    let mut prng = Prng::of_case(seed, STREAM, number);
+    let maker = if number % 4 == 3 { prng.pick(&ANY_PROGRAM) } else { clean::clean };
+    let image = maker(&mut prng);
+    let broken = |steps, clause| {
+        let image = hex(&image.bytes());
+        Some(Broken { seed, case: number, image, steps, clause })
+    };
+    let mut pair = match Pair::begin(checker, &image, &mut prng) {
+        Ok(pair) => pair,
+        Err(clause) => return broken(0, clause),
+    };
+    let answer = pair.series(&mut prng, tally);
+    tally.close(&pair);
+    answer.err().and_then(|clause| broken(pair.desk.state.steps, clause))
+}

@@ -1,0 +1,167 @@
+//! What occurred in the cases, and what should have occurred and did not.
+
+use std::fmt::Write;
+
+use crate::calls::Answer;
+use crate::cases::Desk;
+use crate::images::{op, HEADER_BYTES, ROW_BYTES};
+use crate::plan::Plan;
+use crate::types::State;
+
+/// Accepted calls are counted as number 0.
+const NUMBERS: usize = 12;
+const REASONS: usize = 5;
+const REPORT_KINDS: usize = 6;
+/// The highest refusal of reading, beginning and running.
+const CALLS: [(&str, usize); 3] = [("reading", 7), ("beginning", 8), ("running", 11)];
+
+#[derive(Clone, Default)]
+struct OfKind {
+    cases: u64,
+    numbers: [u64; NUMBERS],
+    steps: u64,
+}
+
+pub struct Coverage {
+    kinds: Vec<OfKind>,
+    calls: [[u64; NUMBERS]; CALLS.len()],
+    reasons: [u64; REASONS],
+    reports: [u64; REPORT_KINDS],
+    /// Ops of steps that a run took alone, and STOP where a run ended at it.
+    ops: [u64; op::COUNT],
+}
+
+fn add(to: &mut [u64], from: &[u64]) {
+    for (to, from) in to.iter_mut().zip(from) {
+        *to += from;
+    }
+}
+
+impl Default for Coverage {
+    fn default() -> Coverage {
+        Coverage {
+            kinds: vec![OfKind::default(); Plan::kinds().len()],
+            calls: Default::default(),
+            reasons: Default::default(),
+            reports: Default::default(),
+            ops: Default::default(),
+        }
+    }
+}
+
+impl Coverage {
+    pub fn add(&mut self, other: &Coverage) {
+        for (to, from) in self.kinds.iter_mut().zip(&other.kinds) {
+            to.cases += from.cases;
+            to.steps += from.steps;
+            add(&mut to.numbers, &from.numbers);
+        }
+        for (to, from) in self.calls.iter_mut().zip(&other.calls) {
+            add(to, from);
+        }
+        add(&mut self.reasons, &other.reasons);
+        add(&mut self.reports, &other.reports);
+        add(&mut self.ops, &other.ops);
+    }
+
+    pub fn case(&mut self, kind: usize) {
+        self.kinds[kind].cases += 1;
+    }
+
+    pub fn call(&mut self, kind: usize, before: &State, answer: &Answer, after: &Desk) {
+        let Some(number) = answer.number() else {
+            return;
+        };
+        let of_call = match answer {
+            Answer::Read(..) => 0,
+            Answer::Begun(_) => 1,
+            _ => 2,
+        };
+        let number = (number as usize).min(NUMBERS - 1);
+        self.kinds[kind].numbers[number] += 1;
+        self.calls[of_call][number] += 1;
+        if let Answer::Ran(ran) = answer {
+            if number == 0 {
+                self.reasons[(ran.reason as usize).min(REASONS - 1)] += 1;
+                self.kinds[kind].steps += u64::from(ran.state.steps - before.steps);
+                self.ran(before, ran.reason, after);
+            }
+        }
+    }
+
+    fn ran(&mut self, before: &State, reason: u32, after: &Desk) {
+        for k in before.reports..after.state.reports {
+            let Some(report) = after.lists.reports.chunks(4).nth(k as usize) else {
+                break;
+            };
+            self.reports[(report[2] as usize).min(REPORT_KINDS - 1)] += 1;
+        }
+        let op_at = |index: u32| after.image[HEADER_BYTES + ROW_BYTES * index as usize];
+        if after.state.steps == before.steps + 1 {
+            self.ops[usize::from(op_at(before.index))] += 1;
+        }
+        if reason == 1 {
+            self.ops[usize::from(op::STOP)] += 1;
+        }
+    }
+
+    pub fn cases(&self) -> u64 {
+        self.kinds.iter().map(|kind| kind.cases).sum()
+    }
+
+    pub fn steps(&self) -> u64 {
+        self.kinds.iter().map(|kind| kind.steps).sum()
+    }
+
+    /// What document 01 has and no case met.
+    pub fn missing(&self) -> Vec<String> {
+        let mut missing = Vec::new();
+        let mut look = |what: String, count: u64| {
+            if count == 0 {
+                missing.push(what);
+            }
+        };
+        for ((name, highest), counts) in CALLS.iter().zip(&self.calls) {
+            for (number, &count) in counts.iter().enumerate().take(highest + 1) {
+                look(format!("{name} with refusal number {number}"), count);
+            }
+        }
+        for (reason, &count) in self.reasons.iter().enumerate().skip(1) {
+            look(format!("stop reason {reason}"), count);
+        }
+        for (kind, &count) in self.reports.iter().enumerate().skip(1) {
+            look(format!("report kind {kind}"), count);
+        }
+        for (name, &count) in op::NAMES.iter().zip(&self.ops) {
+            look(format!("op {name}"), count);
+        }
+        missing
+    }
+
+    pub fn table(&self) -> String {
+        let mut table = String::new();
+        let mut row = |name: &str, cases: &str, numbers: &[u64; NUMBERS], steps: &str| {
+            let numbers: String = numbers.iter().map(|count| format!("{count:>7}")).collect();
+            let _ = writeln!(table, "{name:<27}{cases:>8}{numbers}{steps:>10}");
+        };
+        for (name, kind) in Plan::kinds().iter().zip(&self.kinds) {
+            row(name, &kind.cases.to_string(), &kind.numbers, &kind.steps.to_string());
+        }
+        for ((name, _), numbers) in CALLS.iter().zip(&self.calls) {
+            row(&format!("all of {name}"), "", numbers, "");
+        }
+        let numbers: String = (1..NUMBERS).map(|number| format!("{number:>7}")).collect();
+        let heads = format!("{:<27}{:>8}{:>7}{numbers}{:>10}", "", "cases", "taken", "steps");
+        let pairs = |names: &[String], counts: &[u64]| {
+            let pairs = names.iter().zip(counts).map(|(name, count)| format!("{name} {count}"));
+            pairs.collect::<Vec<_>>().join(", ")
+        };
+        let numbered = |count: usize| (1..count).map(|k| k.to_string()).collect::<Vec<_>>();
+        let reasons = pairs(&numbered(REASONS), &self.reasons[1..]);
+        let reports = pairs(&numbered(REPORT_KINDS), &self.reports[1..]);
+        let ops = pairs(&op::NAMES.map(str::to_string), &self.ops);
+        format!(
+            "{heads}\n{table}stop reasons: {reasons}\nreport kinds: {reports}\nsingle steps: {ops}\n"
+        )
+    }
+}

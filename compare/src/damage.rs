@@ -1,0 +1,118 @@
+//! Images broken in one place, or in several at once, so that the order of the refusals shows.
+
+use crate::edges;
+use crate::images::{
+    op, set_word, word_at, Image, Region, Row, HEADER_BYTES, MAGIC, MOST_DATA, MOST_MEMORY,
+    MOST_REGIONS, MOST_ROWS,
+};
+use crate::prng::Prng;
+use crate::programs;
+
+/// What a header word may be instead: beside its value, beside its limit, at the ends.
+pub fn header_edges(bytes: &[u8], at: usize) -> [u32; 10] {
+    let value = word_at(bytes, at);
+    let limit = match at {
+        4 => MOST_MEMORY,
+        8 => MOST_ROWS,
+        16 => MOST_REGIONS,
+        24 => MOST_DATA,
+        _ => HEADER_BYTES as u32,
+    };
+    let [zero, one, two, middle, most] = edges::ANY_HEADER;
+    let (below, above) = (value.wrapping_sub(1), value.wrapping_add(1));
+    [value, below, above, limit, limit + 1, zero, one, two, middle, most]
+}
+
+/// Images with few rows, so that every part of them is hit.
+fn small(prng: &mut Prng) -> Image {
+    let m = prng.between(1, 40);
+    let n = prng.between(1, 12);
+    let rows = (0..n).map(|_| programs::legal_row(prng, m, n)).collect();
+    let regions = programs::regions(prng, m);
+    Image::new(m, rows, regions, prng)
+}
+
+fn damage_row(prng: &mut Prng, row: &mut Row) {
+    let other = prng.below(op::COUNT as u32) as u8;
+    match prng.below(6) {
+        0 => row.op = prng.pick(&[other, op::COUNT as u8, 128, 255]),
+        1 => row.d = prng.pick(&edges::FIELDS),
+        2 => row.a = prng.pick(&edges::FIELDS),
+        3 => row.b = prng.pick(&edges::OPERAND_FIELDS),
+        4 => row.imm = edges::word(prng),
+        _ => row.imm = row.imm.wrapping_add(prng.pick(&[1, 0xFFFF_FFFF, 0x1_0000])),
+    }
+}
+
+fn damage_region(prng: &mut Prng, region: &mut Region) {
+    let off_by_one = prng.pick(&[1, 0xFFFF_FFFF]);
+    match prng.below(6) {
+        0 => region.start = region.start.wrapping_add(off_by_one),
+        1 => region.length = region.length.wrapping_add(off_by_one),
+        2 => region.start = edges::word(prng),
+        3 => region.length = prng.pick(&[0, 0xFFFF_FFFF, 0u32.wrapping_sub(region.start)]),
+        _ => region.kind = prng.pick(&[0, 1, 2, 3, 0x101, 0x0100_0001, 0xFFFF_FFFF]),
+    }
+}
+
+/// Breaks a part from which sizes and offsets still follow.
+fn damage_parts(prng: &mut Prng, image: &mut Image) {
+    match prng.below(8) {
+        0..=3 => {
+            let place = prng.place(image.rows.len());
+            damage_row(prng, &mut image.rows[place]);
+        }
+        4 | 5 if !image.regions.is_empty() => {
+            let place = prng.place(image.regions.len());
+            damage_region(prng, &mut image.regions[place]);
+        }
+        6 => {
+            image.data.pop();
+        }
+        _ => image.data.push(prng.byte()),
+    }
+}
+
+fn damage_bytes(prng: &mut Prng, bytes: &mut Vec<u8>) {
+    if bytes.len() < HEADER_BYTES {
+        return;
+    }
+    let any = prng.place(bytes.len());
+    match prng.below(6) {
+        0 => bytes.truncate(any),
+        1 => bytes.extend(prng.bytes(any % 9 + 1)),
+        2 => bytes[any] = prng.byte(),
+        3 => bytes[any] ^= 1 << prng.below(8),
+        4 => set_word(bytes, any.min(HEADER_BYTES - 4) / 4 * 4, edges::word(prng)),
+        _ => {
+            let at = 4 * prng.place(HEADER_BYTES / 4);
+            let word = prng.pick(&header_edges(bytes, at));
+            set_word(bytes, at, word);
+        }
+    }
+}
+
+/// An image's bytes and the M it was made for, with so many damages to its parts and its bytes.
+pub fn damaged(prng: &mut Prng, parts: u32, whole: u32) -> (Vec<u8>, u32) {
+    let mut image = small(prng);
+    for _ in 0..parts {
+        damage_parts(prng, &mut image);
+    }
+    let mut bytes = image.bytes();
+    for _ in 0..whole {
+        damage_bytes(prng, &mut bytes);
+    }
+    (bytes, image.m)
+}
+
+/// Bytes that are no image, or begin like one.
+pub fn raw(prng: &mut Prng) -> (Vec<u8>, u32) {
+    let length = prng.place(101);
+    let mut bytes = prng.bytes(length);
+    if prng.one_in(2) {
+        for (byte, right) in bytes.iter_mut().zip(MAGIC) {
+            *byte = right;
+        }
+    }
+    (bytes, prng.between(1, 40))
+}

@@ -1,0 +1,163 @@
+//! Program images built from their parts, as document 01 lays them out.
+
+use crate::prng::Prng;
+
+pub const MAGIC: [u8; 4] = [0x54, 0x55, 0x4E, 0x31];
+pub const HEADER_BYTES: usize = 32;
+pub const ROW_BYTES: usize = 8;
+pub const REGION_BYTES: usize = 12;
+pub const MOST_MEMORY: u32 = 4096;
+pub const MOST_ROWS: u32 = 512;
+pub const MOST_REGIONS: u32 = 32;
+pub const MOST_DATA: u32 = 4096;
+
+/// The ops' numbers.
+pub mod op {
+    pub const STOP: u8 = 0;
+    pub const MOV: u8 = 1;
+    pub const ADD: u8 = 2;
+    pub const SUB: u8 = 3;
+    pub const MUL: u8 = 4;
+    pub const AND: u8 = 5;
+    pub const OR: u8 = 6;
+    pub const XOR: u8 = 7;
+    pub const SHL: u8 = 8;
+    pub const SHR: u8 = 9;
+    pub const SAR: u8 = 10;
+    pub const EQ: u8 = 11;
+    pub const LTU: u8 = 12;
+    pub const LD8: u8 = 13;
+    pub const LD32: u8 = 14;
+    pub const ST8: u8 = 15;
+    pub const ST32: u8 = 16;
+    pub const JNZ: u8 = 17;
+    pub const EMIT: u8 = 18;
+    pub const OPEN: u8 = 19;
+    pub const CLOSE: u8 = 20;
+    pub const COUNT: usize = 21;
+    pub const NAMES: [&str; COUNT] = [
+        "STOP", "MOV", "ADD", "SUB", "MUL", "AND", "OR", "XOR", "SHL", "SHR", "SAR", "EQ", "LTU",
+        "LD8", "LD32", "ST8", "ST32", "JNZ", "EMIT", "OPEN", "CLOSE",
+    ];
+}
+
+/// A second operand.
+#[derive(Clone, Copy)]
+pub enum Operand {
+    Register(u8),
+    Literal(u32),
+}
+
+impl Operand {
+    const LITERAL_FIELD: u8 = 255;
+
+    fn fields(self) -> (u8, u32) {
+        match self {
+            Operand::Register(b) => (b, 0),
+            Operand::Literal(imm) => (Operand::LITERAL_FIELD, imm),
+        }
+    }
+}
+
+/// One instruction, legal or not.
+#[derive(Clone, Copy, Default)]
+pub struct Row {
+    pub op: u8,
+    pub d: u8,
+    pub a: u8,
+    pub b: u8,
+    pub imm: u32,
+}
+
+impl Row {
+    pub fn stop() -> Row {
+        Row::default()
+    }
+
+    pub fn copy(d: u8, operand: Operand) -> Row {
+        Row::sum(op::MOV, d, 0, operand)
+    }
+
+    pub fn sum(op: u8, d: u8, a: u8, operand: Operand) -> Row {
+        let (b, imm) = operand.fields();
+        Row { op, d, a, b, imm }
+    }
+
+    pub fn access(op: u8, d: u8, a: u8, imm: u32) -> Row {
+        Row { op, d, a, b: 0, imm }
+    }
+
+    pub fn jump(a: u8, to: u32) -> Row {
+        Row::access(op::JNZ, 0, a, to)
+    }
+
+    pub fn emit(a: u8, port: u32) -> Row {
+        Row::access(op::EMIT, 0, a, port)
+    }
+
+    pub fn range(op: u8, start: u32, length: u32) -> Row {
+        Row::access(op, 0, 0, start | (length << 16))
+    }
+}
+
+pub const FILLED: u32 = 1;
+pub const UNDEFINED: u32 = 2;
+
+#[derive(Clone, Copy)]
+pub struct Region {
+    pub start: u32,
+    pub length: u32,
+    pub kind: u32,
+}
+
+/// An image in parts; the sizes and offsets in its bytes follow from the parts.
+#[derive(Clone)]
+pub struct Image {
+    pub m: u32,
+    pub rows: Vec<Row>,
+    pub regions: Vec<Region>,
+    pub data: Vec<u8>,
+}
+
+impl Image {
+    pub fn new(m: u32, rows: Vec<Row>, regions: Vec<Region>, prng: &mut Prng) -> Image {
+        let filled = regions.iter().filter(|region| region.kind == FILLED);
+        let sum = filled.fold(0u64, |sum, region| sum + u64::from(region.length));
+        let data = prng.bytes(sum.min(u64::from(MOST_DATA)) as usize);
+        Image { m, rows, regions, data }
+    }
+
+    pub fn bytes(&self) -> Vec<u8> {
+        let [n, r, d] = [self.rows.len(), self.regions.len(), self.data.len()].map(|c| c as u32);
+        let at_rows = HEADER_BYTES as u32;
+        let at_regions = at_rows + ROW_BYTES as u32 * n;
+        let at_data = at_regions + REGION_BYTES as u32 * r;
+        let mut bytes = MAGIC.to_vec();
+        for word in [self.m, n, at_rows, r, at_regions, d, at_data] {
+            bytes.extend(word.to_le_bytes());
+        }
+        for row in &self.rows {
+            bytes.extend([row.op, row.d, row.a, row.b]);
+            bytes.extend(row.imm.to_le_bytes());
+        }
+        for region in &self.regions {
+            for word in [region.start, region.length, region.kind] {
+                bytes.extend(word.to_le_bytes());
+            }
+        }
+        bytes.extend(&self.data);
+        bytes
+    }
+}
+
+pub fn set_word(bytes: &mut [u8], at: usize, word: u32) {
+    bytes[at..at + 4].copy_from_slice(&word.to_le_bytes());
+}
+
+pub fn word_at(bytes: &[u8], at: usize) -> u32 {
+    u32::from_le_bytes([bytes[at], bytes[at + 1], bytes[at + 2], bytes[at + 3]])
+}
+
+pub fn hex(bytes: &[u8]) -> String {
+    bytes.iter().map(|byte| format!("{byte:02x}")).collect()
+}

@@ -1,0 +1,67 @@
+//! The driver itself: its images are those of document 01, its cases repeat, its words are plain.
+
+use compare::calls;
+use compare::cases::Call;
+use compare::compare::compare;
+use compare::coverage::Coverage;
+use compare::images::{hex, op, Image, Operand, Region, Row, UNDEFINED};
+use compare::interpreter;
+use compare::plan::Plan;
+use compare::prng::Prng;
+use compare::types::{Buffers, Engine, Lists, Ran, State};
+
+#[test]
+fn the_builder_writes_the_image_of_document_01() {
+    let rows = vec![
+        Row::copy(0, Operand::Literal(8)),
+        Row::access(op::LD32, 1, 0, 0),
+        Row::emit(1, 2),
+        Row::stop(),
+    ];
+    let regions = vec![Region { start: 8, length: 4, kind: UNDEFINED }];
+    let image = Image::new(16, rows, regions, &mut Prng::of_case(0, 0, 0));
+    let expected = "54554e31 10000000 04000000 20000000 01000000 40000000 00000000 4c000000 \
+                010000ff08000000 0e01000000000000 1200010002000000 0000000000000000 \
+                08000000 04000000 02000000";
+    assert_eq!(hex(&image.bytes()), expected.replace(' ', ""));
+}
+
+#[test]
+fn a_case_is_the_same_each_time() {
+    let plan = Plan::new(7);
+    for number in (0..plan.counted() + 2000).step_by(997) {
+        let (left, right) = (plan.case(number), plan.case(number));
+        assert!(left.0 == right.0 && left.1.desk == right.1.desk, "case {number}");
+        assert_eq!(left.1.calls.len(), right.1.calls.len(), "case {number}");
+    }
+}
+
+#[test]
+fn only_damaged_images_are_refused() {
+    let plan = Plan::new(3);
+    for number in plan.counted()..plan.counted() + 2000 {
+        let (kind, mut case) = plan.case(number);
+        let name = Plan::kinds()[kind];
+        let answer = calls::make(&interpreter::ENGINE, &mut case.desk, Call::Read);
+        if !name.contains("damaged") && name != "raw bytes" {
+            assert_eq!(answer.number(), Some(0), "case {number}, {name}");
+        }
+    }
+}
+
+fn forgetful_run(image: &[u8], state: &State, buffers: Buffers, lists: Lists, budget: u32) -> Ran {
+    let mut ran = (interpreter::ENGINE.run)(image, state, buffers, lists, budget);
+    ran.state.vregs[3] ^= 0xFF;
+    ran
+}
+
+#[test]
+fn a_difference_is_told_in_words() {
+    let forgetful = Engine { name: "forgetful", run: forgetful_run, ..interpreter::ENGINE };
+    let plan = Plan::new(1);
+    let engines = [&interpreter::ENGINE, &forgetful];
+    let found = (0..10).find_map(|k| compare(engines, &plan, k, &mut Coverage::default()));
+    let words = found.expect("every run differs").difference;
+    assert!(words.starts_with("register 3's V: interpreter 0x"), "{words}");
+    assert!(words.contains(", forgetful 0x"), "{words}");
+}

@@ -1,0 +1,3 @@
+pub mod StateWords
+pub mod CallLaws
+pub mod CodeRange

@@ -1,0 +1,16 @@
+use borrow.Author.Needs.{needs}
+use Rattle.capi.proofs.CallLaws.{begun-words}
+use Rattle.capi.proofs.uviktalik_begin.Statement.{statement}
+use Rattle.capi.proofs.uviktalik_begin.Tie as tie
+
+pub uviktalik-begin-spec : {M : Type 1} → statement M
+uviktalik-begin-spec =
+    tie.close
+    (tie.spec
+    (λ c κs. search needs)
+    (λ c κs. search needs)
+    (λ c κs. search needs)
+    (λ c. search needs)
+    (λ c. search needs)
+    (λ c. search needs)
+    (λ c. begun-words _ _ _ _ _ _ _ _ _ (c .before .before .before .before .before .before .before .before .before .before .before .before .before .data-of .result) (c .before .before .before .before .before .before .before .before .before .begin .result) (c .before .before .before .before .before .before .before .before .before .before .before .before .before .data-of .ensures) (c .before .before .before .before .before .before .before .before .before .begin .ensures) (c .words-of .ensures)))

@@ -1,0 +1,15 @@
+use borrow.Author.Needs.{needs}
+use mathlib.Core.Path.{refl, ap}
+use Rattle.capi.specs.Words.{codeRange}
+use Rattle.capi.proofs.uviktalik_read.Statement.{statement}
+use Rattle.capi.proofs.uviktalik_read.Tie as tie
+
+pub uviktalik-read-spec : {M : Type 1} → statement M
+uviktalik-read-spec =
+    tie.close
+    (tie.spec
+    (λ c κs. search needs)
+    (λ c. search needs)
+    (λ c. search needs)
+    (λ c κs. search needs)
+    (λ c. (c .before .before .before .before .before .read .ensures, rw (c .before .code-start .ensures) (ap codeRange (c .before .before .before .before .before .read .ensures)))))
