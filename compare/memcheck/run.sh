@@ -1,6 +1,6 @@
 #!/bin/sh
 # Measures Memcheck's V bits with vbits.c and compares them with the checker's.
-# Usage: run.sh PROGRAM [L4] [L13]   PROGRAM is the built memcheck.rs; the rest are requests it has.
+# Usage: run.sh PROGRAM [L4] [L13]   PROGRAM is the built memcheck; the rest are requests it has.
 set -eu
 here=$(cd "$(dirname "$0")" && pwd)
 

@@ -51,7 +51,7 @@ pub enum Operand {
 impl Operand {
     const LITERAL_FIELD: u8 = 255;
 
-    fn fields(self) -> (u8, u32) {
+    const fn fields(self) -> (u8, u32) {
         match self {
             Operand::Register(b) => (b, 0),
             Operand::Literal(imm) => (Operand::LITERAL_FIELD, imm),
@@ -60,7 +60,7 @@ impl Operand {
 }
 
 /// One instruction, legal or not.
-#[derive(Clone, Copy, Default)]
+#[derive(Clone, Copy)]
 pub struct Row {
     pub op: u8,
     pub d: u8,
@@ -70,32 +70,32 @@ pub struct Row {
 }
 
 impl Row {
-    pub fn stop() -> Row {
-        Row::default()
+    pub const fn stop() -> Row {
+        Row::access(op::STOP, 0, 0, 0)
     }
 
-    pub fn copy(d: u8, operand: Operand) -> Row {
+    pub const fn copy(d: u8, operand: Operand) -> Row {
         Row::sum(op::MOV, d, 0, operand)
     }
 
-    pub fn sum(op: u8, d: u8, a: u8, operand: Operand) -> Row {
+    pub const fn sum(op: u8, d: u8, a: u8, operand: Operand) -> Row {
         let (b, imm) = operand.fields();
         Row { op, d, a, b, imm }
     }
 
-    pub fn access(op: u8, d: u8, a: u8, imm: u32) -> Row {
+    pub const fn access(op: u8, d: u8, a: u8, imm: u32) -> Row {
         Row { op, d, a, b: 0, imm }
     }
 
-    pub fn jump(a: u8, to: u32) -> Row {
+    pub const fn jump(a: u8, to: u32) -> Row {
         Row::access(op::JNZ, 0, a, to)
     }
 
-    pub fn emit(a: u8, port: u32) -> Row {
+    pub const fn emit(a: u8, port: u32) -> Row {
         Row::access(op::EMIT, 0, a, port)
     }
 
-    pub fn range(op: u8, start: u32, length: u32) -> Row {
+    pub const fn range(op: u8, start: u32, length: u32) -> Row {
         Row::access(op, 0, 0, start | (length << 16))
     }
 }

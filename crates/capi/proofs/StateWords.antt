@@ -1,14 +1,13 @@
 -- Words of a state that are taken out of its buffer, or put there.
 use Prim.Native.Nat.{ℕ, _+_, _≤_, _<_}
 use mathlib.Core.Path.{_≡_, refl, sym, ap, _∙_}
-use mathlib.Core.Logic.{_⊎_, inl, inr}
+use mathlib.Core.Logic.{inl}
 use mathlib.Core.List.{List}
 use native.Mathlib.Omega.{arith}
 use lib.ListN.{length, getD, set, drop, length-set}
 use lib.Seq.{ext-getD, getD-take, getD-drop, getD-set-same, getD-set-other}
 use Rattle.image.specs.Format.{partOf}
 use Rattle.image.proofs.Parts.{length-part}
-use Rattle.machine.specs.Machine.{Counts}
 use Rattle.machine.specs.Ranges.{written}
 use Rattle.machine.proofs.Places.{length-written, written-there, written-elsewhere}
 use Rattle.capi.specs.Words.{regsIn, regsVIn, countsIn}

@@ -7,7 +7,7 @@ use mathlib.Core.List.{List, [], _∷_}
 use lib.ListN.{getD}
 use lib.Dec.{eqb}
 use Rattle.image.specs.Format.{registers, headerSize, instructionSize, partOf}
-use Rattle.image.specs.Refusals.{refused, headerOf}
+use Rattle.image.specs.Refusals.{refused}
 use Rattle.image.specs.declared.Header.{Header}
 use Rattle.machine.specs.Machine.{Parts, parts, Counts, World}
 use Rattle.machine.specs.Calls.{Began, Ran}

@@ -1,7 +1,7 @@
 use borrow.Author.Needs.{needs}
 use native.Mathlib.Omega.{arith}
 use Prim.Native.Nat.{_+_, _-_}
-use mathlib.Core.Path.{refl, sym, _∙_}
+use mathlib.Core.Path.{refl, sym}
 use lib.ListN.{getD}
 use Rattle.checker.proofs.Filling.{Filling, none-filled, one-filled}
 use Rattle.capi.proofs.StateWords.{part-is}

@@ -1,5 +1,5 @@
 use borrow.Author.Needs.{needs}
-use mathlib.Core.Path.{refl, ap}
+use mathlib.Core.Path.{ap}
 use Rattle.capi.specs.Words.{codeRange}
 use Rattle.capi.proofs.uviktalik_read.Statement.{statement}
 use Rattle.capi.proofs.uviktalik_read.Tie as tie

@@ -1,5 +1,4 @@
 use borrow.Author.Needs.{needs}
-use Prim.Native.Nat.{_-_}
 use Rattle.checker.proofs.flat.compute_of.Statement.{statement}
 use Rattle.checker.proofs.flat.compute_of.Tie as tie
 

@@ -1,5 +1,4 @@
 use borrow.Author.Needs.{needs}
-use Prim.Native.Nat.{_-_}
 use mathlib.Core.Path.{refl}
 use Rattle.checker.specs.Flat.{meaning}
 use Rattle.checker.proofs.flat.flatten.Statement.{statement}

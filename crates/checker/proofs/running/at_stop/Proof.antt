@@ -1,7 +1,5 @@
-use borrow.Author.Needs.{needs}
-use Prim.Native.Nat.{_-_}
 use mathlib.Core.Path.{refl}
-use borrow.Author.Tests.{lt-leb, le-leb, eq-eqb, ne-eqb}
+use borrow.Author.Tests.{lt-leb, le-leb}
 use Rattle.checker.proofs.running.at_stop.Statement.{statement}
 use Rattle.checker.proofs.running.at_stop.Tie as tie
 

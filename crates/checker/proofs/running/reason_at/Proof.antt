@@ -1,6 +1,5 @@
 use borrow.Author.Needs.{needs}
-use Prim.Native.Nat.{_-_}
-use mathlib.Core.Path.{refl, sym, _∙_, ap}
+use mathlib.Core.Path.{refl, _∙_, ap}
 use Rattle.machine.specs.Runs.{isStop, isEmit}
 use Rattle.checker.specs.Flat.{meaning}
 use Rattle.checker.proofs.RunningLaws.{goes-past, stop-reason, emit-reason, other-reason}

@@ -1,5 +1,4 @@
 use borrow.Author.Needs.{needs}
-use Prim.Native.Nat.{_-_}
 use Rattle.checker.specs.Flat.{meaning}
 use Rattle.checker.proofs.GroupLaws.{stop-law}
 use Rattle.checker.proofs.step.step.Statement.{statement}

@@ -1,0 +1,56 @@
+//! Runs through the checker each case that `vbits` ran under Memcheck, tabulates where the V bits
+//! are equal and which side is finer, and fails on any difference that its tables don't foresee.
+
+mod cases;
+mod comparison;
+mod differences;
+mod events;
+mod machine;
+mod modes;
+mod rules;
+mod seen;
+mod tables;
+
+use std::fs;
+use std::process::ExitCode;
+
+use compare::checker::ENGINE;
+
+use crate::comparison::Comparison;
+use crate::modes::{named, MODES, REQUESTS};
+
+/// Takes the arguments: `no=FILE auto=FILE yes=FILE plain=FILE strict=FILE`, the lines of each
+/// mode, and the requests of document 02 that the checker has (`L4`, `L13`).
+fn compare_all(arguments: &[String]) -> Result<Comparison, String> {
+    let mut all = Comparison::default();
+    all.landed.extend(arguments.iter().filter_map(|word| named(&REQUESTS, word)));
+    for argument in arguments.iter().filter(|word| named(&REQUESTS, word).is_none()) {
+        let (name, path) =
+            argument.split_once('=').ok_or(format!("unknown argument {argument}"))?;
+        let mode = named(&MODES, name).ok_or(format!("unknown mode {name}"))?;
+        let text = fs::read_to_string(path).map_err(|error| format!("{path}: {error}"))?;
+        all.take_file(&text, mode);
+    }
+    all.find_gaps();
+    all.find_idle_rows();
+    Ok(all)
+}
+
+fn main() -> ExitCode {
+    let arguments: Vec<String> = std::env::args().skip(1).collect();
+    match compare_all(&arguments) {
+        Ok(all) => {
+            print!("{all}");
+            all.faults.iter().for_each(|fault| println!("NOT EXPECTED: {fault}"));
+            if all.faults.is_empty() {
+                println!("\nAs expected, engine {}.", ENGINE.name);
+                return ExitCode::SUCCESS;
+            }
+            ExitCode::FAILURE
+        }
+        Err(error) => {
+            eprintln!("memcheck: {error}");
+            ExitCode::FAILURE
+        }
+    }
+}

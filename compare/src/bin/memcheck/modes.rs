@@ -1,0 +1,43 @@
+//! What an expectation depends on: Memcheck's mode, and the requests that the checker has.
+
+use std::fmt;
+
+/// The value of `--expensive-definedness-checks`; `Plain` is `no` without Valgrind's optimiser
+/// (`--vex-iropt-level=0`), `Strict` is `no` with `--partial-loads-ok=no`.
+#[derive(Clone, Copy, PartialEq, Eq, PartialOrd, Ord)]
+pub enum Mode {
+    No,
+    Auto,
+    Yes,
+    Plain,
+    Strict,
+}
+use Mode::{Auto, No, Plain, Strict, Yes};
+
+impl fmt::Display for Mode {
+    fn fmt(&self, f: &mut fmt::Formatter) -> fmt::Result {
+        let known = MODES.iter().find(|(_, mode)| mode == self);
+        known.map_or(Ok(()), |(name, _)| f.write_str(name))
+    }
+}
+
+pub const MODES: [(&str, Mode); 5] =
+    [("no", No), ("auto", Auto), ("yes", Yes), ("plain", Plain), ("strict", Strict)];
+pub const EVERY: &[Mode] = &[No, Auto, Yes, Plain, Strict];
+/// The modes in which the operations are run beside the events, and those with the optimiser.
+pub const ALL: &[Mode] = &[No, Auto, Yes, Plain];
+pub const OPTIMISED: &[Mode] = &[No, Auto, Yes];
+
+#[derive(Clone, Copy, PartialEq, Eq)]
+pub enum Request {
+    L4,
+    L13,
+}
+use Request::{L13, L4};
+
+pub const REQUESTS: [(&str, Request); 2] = [("L4", L4), ("L13", L13)];
+
+/// What has this name in a table of names.
+pub fn named<T: Copy>(table: &[(&str, T)], name: &str) -> Option<T> {
+    table.iter().find(|(known, _)| *known == name).map(|(_, value)| *value)
+}

@@ -1,0 +1,175 @@
+//! Counted cases of a run: the rules of each op in one step, and of the buffers, lists and counts.
+
+use super::{begun, small_image, three_rows, Choices, M};
+use crate::cases::{self, Budget, Call, Case};
+use crate::edges;
+use crate::images::{op, Image, Operand, Row, MOST_MEMORY};
+use crate::prng::Prng;
+use crate::programs::{ACCESSES, ARITHMETIC, RANGES};
+use crate::types::State;
+
+/// One step from a state with these registers and V words; the others hold anything.
+fn one_step(prng: &mut Prng, rows: Vec<Row>, known: &[(u8, u32, u32)]) -> Case {
+    let image = small_image(prng, rows);
+    let mut desk = cases::desk(prng, image.bytes(), M);
+    desk.state = State { regs: cases::registers(prng, M), ..State::default() };
+    desk.state.vregs = std::array::from_fn(|_| edges::shadow(prng));
+    for &(register, data, shadow) in known {
+        desk.state.regs[usize::from(register)] = data;
+        desk.state.vregs[usize::from(register)] = shadow;
+    }
+    Case { desk, calls: vec![Call::Read, Call::Run(Budget::Exactly(1))] }
+}
+
+pub fn arithmetic(choices: &mut Choices, prng: &mut Prng) -> Case {
+    let op = choices.pick(&ARITHMETIC);
+    let v = choices.pick(&[0, 1, 0x81, 0x8000_0000, 0xFFFF_FFFF]);
+    let w = choices.pick(&[0, 1, 0x20, 0xFF00, 0xFFFF_FFFF]);
+    let x = choices.pick(&[0, 0xF, 0x80, 0x8000_0001, 0xFFFF_FFFF]);
+    let y = choices.pick(&[0, 1, 4, 0xF, 31, 32, 33, 0x8000_0000, 0xFFFF_FFFF]);
+    let d = choices.pick(&[3, 1]);
+    let (operand, known) = match choices.below(3) {
+        0 => (Operand::Register(2), [(1, x, v), (2, y, w)]),
+        1 => (Operand::Register(1), [(2, x, v), (1, y, w)]),
+        _ => (Operand::Literal(y), [(1, x, v), (2, y, w)]),
+    };
+    let a = if op == op::MOV { 0 } else { 1 };
+    one_step(prng, vec![Row::sum(op, d, a, operand)], &known)
+}
+
+pub fn access(choices: &mut Choices, prng: &mut Prng) -> Case {
+    let op = choices.pick(&ACCESSES);
+    let address = choices.pick(&edges::addresses(M));
+    let base = choices.pick(&[0, address, 0xFFFF_FFFE]);
+    let v = choices.pick(&[0, 1, 0x8000_0000, 0xFFFF_FFFF]);
+    let d = choices.pick(&[1, 2]);
+    let closed = choices.pick(&[0u32, 0b1111, 0b0001, 0b1000, 0b0110]);
+    let row = Row::access(op, d, 1, address.wrapping_sub(base));
+    let mut case = one_step(prng, vec![row], &[(1, base, v)]);
+    for k in 0..4 {
+        let at = address as usize + k;
+        if let Some(mark) = case.desk.a.get_mut(at) {
+            *mark = u8::from(closed & (1 << k) == 0);
+        }
+    }
+    case
+}
+
+pub fn jump(choices: &mut Choices, prng: &mut Prng) -> Case {
+    const N: usize = 4;
+    let from = choices.below(N);
+    // A row that jumps to itself comes last: an engine that forgets the budget differs before.
+    let to = ((from + 1 + choices.below(N + 1)) % (N + 1)) as u32;
+    let x = choices.pick(&[0, 1, 0x100, 0x8000_0000]);
+    let v = choices.pick(&[0, 1, 0x8000_0000, 0xFFFF_FFFF]);
+    let mut rows = vec![Row::copy(2, Operand::Literal(7)); N];
+    rows[from] = Row::jump(1, to);
+    let mut case = one_step(prng, rows, &[(1, x, v)]);
+    case.desk.state.index = from as u32;
+    case
+}
+
+pub fn emit(choices: &mut Choices, prng: &mut Prng) -> Case {
+    let port = choices.below(9) as u32;
+    let places = choices.below(4);
+    let made = choices.below(4) as u32;
+    let v = choices.pick(&[0, 1, 0x8000_0000, 0xFFFF_FFFF]);
+    let budget = choices.below(2) as u32;
+    let mut case = one_step(prng, vec![Row::emit(1, port), Row::emit(2, 7)], &[(1, 9, v)]);
+    case.desk.lists = cases::lists(prng, 8, 2 * places);
+    case.desk.state.outputs = made;
+    case.calls.insert(1, Call::Run(Budget::Exactly(budget)));
+    case
+}
+
+pub fn range(choices: &mut Choices, prng: &mut Prng) -> Case {
+    let op = choices.pick(&RANGES);
+    let m = choices.pick(&[1, 2, M, 255, 256, 257, MOST_MEMORY]);
+    let start = choices.pick(&[0, 1, m / 2, m - 1, m, m + 1, 0x7FFF, 0xFFFF]);
+    let beside = m.saturating_sub(start);
+    let length = choices.pick(&[0, 1, 2, m - 1, m, m + 1, beside, beside + 1, 0xFFFF]);
+    let image = Image::new(m, vec![Row::range(op, start, length)], Vec::new(), prng);
+    let mut desk = cases::desk(prng, image.bytes(), m);
+    desk.state.vregs = [0; 16];
+    Case { desk, calls: vec![Call::Read, Call::Run(Budget::Exactly(1))] }
+}
+
+/// Buffers that do not fit the beginning, or the run after a beginning that they do fit.
+pub fn buffers(choices: &mut Choices, prng: &mut Prng) -> Case {
+    let image = small_image(prng, three_rows());
+    let mut case = begun(prng, &image, &[5]);
+    for of in [0, 1, 2] {
+        let length = choices.pick(&[M, 0, M - 1, M + 1, 2 * M]) as usize;
+        let desk = &mut case.desk;
+        [&mut desk.mem, &mut desk.v, &mut desk.a][of].resize(length, 1);
+    }
+    match choices.below(3) {
+        0 => {}
+        1 => drop(case.calls.remove(1)),
+        _ => case.calls[1] = Call::Run(Budget::Exactly(u32::MAX)),
+    }
+    case
+}
+
+/// A loop that reports twice and outputs once in each round, to fill lists to the last place.
+fn filling(prng: &mut Prng, report_words: usize, output_words: usize) -> Case {
+    let rows = vec![
+        Row::copy(3, Operand::Literal(150)),
+        Row::access(op::LD32, 2, 1, 0xFFFF_0000),
+        Row::emit(4, 3),
+        Row::access(op::LD8, 4, 15, 8),
+        Row::copy(1, Operand::Register(4)),
+        Row::emit(3, 1),
+        Row::sum(op::SUB, 3, 3, Operand::Literal(1)),
+        Row::jump(3, 1),
+    ];
+    let image = small_image(prng, rows);
+    let mut case = begun(prng, &image, &[0, 10, 2000, 1]);
+    if let Call::Begin(registers) = &mut case.calls[1] {
+        registers[15] = 0;
+    }
+    case.desk.lists = cases::lists(prng, report_words, output_words);
+    case
+}
+
+pub fn report_lists(choices: &mut Choices, prng: &mut Prng) -> Case {
+    let words = choices.below(270);
+    filling(prng, words, 512)
+}
+
+pub fn output_lists(choices: &mut Choices, prng: &mut Prng) -> Case {
+    let words = choices.below(524);
+    filling(prng, 256, words)
+}
+
+/// Every count of the state, the budget and an A byte at their edges, all combined.
+pub fn counts(choices: &mut Choices, prng: &mut Prng) -> Case {
+    const PLACES: u32 = 2;
+    const N: u32 = 3;
+    let most = edges::MOST_STEPS;
+    let rows = vec![Row::emit(1, 2), Row::stop(), Row::copy(2, Operand::Register(1))];
+    let mut case = one_step(prng, rows, &[(1, 5, 0x80)]);
+    case.desk.lists = cases::lists(prng, 8, 2 * PLACES as usize);
+    let state = &mut case.desk.state;
+    state.index = choices.pick(&[0, 1, 2, N, N + 1, u32::MAX]);
+    state.outputs = choices.pick(&[0, PLACES - 1, PLACES, PLACES + 1, u32::MAX]);
+    state.steps = choices.pick(&[0, 1, 3, most - 1, most, most + 1, 0x8000_0000, u32::MAX]);
+    let twice = state.steps.wrapping_mul(2);
+    state.reports = choices.pick(&[0, twice, twice.wrapping_add(1), u32::MAX]);
+    case.calls[1] = Call::Run(choices.pick(&[
+        Budget::Exactly(0),
+        Budget::Exactly(1),
+        Budget::Reaching(most),
+        Budget::Reaching(most + 1),
+        Budget::Exactly(u32::MAX),
+        Budget::Reaching(0),
+        Budget::Reaching(1),
+    ]));
+    case.desk.a.fill(1);
+    match choices.below(3) {
+        0 => {}
+        1 => case.desk.a[0] = 2,
+        _ => case.desk.a[M as usize - 1] = 255,
+    }
+    case
+}
