@@ -9,9 +9,22 @@
  * size says (an array parameter: to as many as are written there), that pointers are not null, not
  * even beside a size of 0, and that nothing that a call writes overlaps anything else that it is lent.
  *
- * A call returns 0 if it was accepted, or the number of its refusal, 1 to 11. The index at fault, or
- * 0, is left in *fault (refusal 5: the instruction, refusal 6: the region). A refused call leaves
- * every buffer and list as it was. Calls keep nothing between them.
+ * A call returns 0 if it was accepted, or the number of its refusal, the first of these that applies:
+ *    1  the image has under 32 bytes
+ *    2  its first four bytes are wrong
+ *    3  M, N, R or D is out of its limits: 1 to 4,096, 1 to 512, 0 to 32, 0 to 4,096
+ *    4  an offset or the image's length is not as computed from them
+ *    5  an instruction breaks its row of the table, or has none
+ *    6  a region breaks its rules
+ *    7  D is not the sum of the filled regions' lengths
+ *    8  memory, V or A buffer not of M bytes; report list not a multiple of 4 words or above 256;
+ *       output list not a multiple of 2 words or above 512
+ *    9  steps so far plus budget above 1,000,000
+ *   10  an A byte above 1
+ *   11  index above N, outputs above the places, or reports above twice the steps
+ * The lowest index at fault is left in *fault: of the instruction (5), of the region (6), else 0. A
+ * refused call leaves memory, V bits, A bits, reports and outputs as they were. Calls keep nothing
+ * between them.
  */
 #ifndef UVIKTALIK_H
 #define UVIKTALIK_H
@@ -49,7 +62,8 @@ uint8_t uviktalik_read(const uint8_t *image, size_t image_size, uint32_t header[
  *   mem     M bytes of memory; a byte that the image does not fill keeps what it has
  *   vbits   M bytes: a bit is 1 where the memory's bit is undefined
  *   abits   M bytes: 1 where the byte is addressable, else 0
- *   state   gets the state; all zeros when refused
+ *   state   gets the state: the registers' values, all undefined but register 15, and counts of 0; all
+ *           zeros when refused
  * Refusals 1 to 8.
  */
 uint8_t uviktalik_begin(const uint8_t *image, size_t image_size, const uint32_t regs[16],
@@ -60,9 +74,11 @@ uint8_t uviktalik_begin(const uint8_t *image, size_t image_size, const uint32_t 
 /*
  * Runs a program from a state, for at most so many steps. A run may be continued with what it left.
  *   state    is taken and left; as given when refused
- *   reports  four words a report: steps before it, index, kind (1 to 5), detail; a multiple of 4 words,
- *            at most 256. Report number k, from 0, goes to place k if there is one.
- *   outputs  two words an output: port, value; a multiple of 2 words, at most 512
+ *   reports  four words a report: steps before it, index, kind (1 to 5), detail. Report number k, from
+ *            0, goes to place k if there is one. The count in the state goes on past the places, so
+ *            compare it with the list's size before you read the list; other words are left alone.
+ *   outputs  two words an output: port, value. Output number k goes to place k; other words are left
+ *            alone.
  *   budget   with the steps so far at most 1,000,000
  *   reason   gets the stop reason: 1 STOP, 2 past the last instruction, 3 no budget left, 4 no place
  *            for an output; 0 when refused

@@ -6,6 +6,9 @@ pub const ENGINE: Engine = Engine { name: "checker", read, begin, run };
 
 const STATE: usize = 36;
 
+/// What lies in a place before a call that is to write it, so that one which is left alone is seen.
+const STALE: u32 = 0xA5A5_A5A5;
+
 // Each declaration is that of the header; a slice passes as a pointer and a size.
 extern "C" {
     fn uviktalik_read(
@@ -67,19 +70,20 @@ fn state_in(words: &[u32; STATE]) -> State {
 }
 
 pub fn read(image: &[u8]) -> (Header, &[u8]) {
-    let (mut header, mut code, mut fault) = ([0; 4], [0; 2], 0);
+    let (mut header, mut code, mut fault) = ([STALE; 4], [usize::MAX; 2], usize::MAX);
     // SAFETY: every pointer comes from a live reference of its type, a slice's with its size, and
     // those that are written are of distinct variables.
     let number =
         unsafe { uviktalik_read(image.as_ptr(), image.len(), &mut header, &mut code, &mut fault) };
     let [m, n, r, d] = header;
     let answer = Header { number: number.into(), index: fault as u32, m, n, r, d };
+    assert!(number == 0 || code == [0, 0], "a refused image's code is at {code:?}");
     (answer, &image[code[0]..code[0] + code[1]])
 }
 
 pub fn begin(image: &[u8], regs: &[u32; 16], buffers: Buffers) -> Began {
     let Buffers { mem, v, a } = buffers;
-    let (mut words, mut fault) = ([0; STATE], 0);
+    let (mut words, mut fault) = ([STALE; STATE], usize::MAX);
     // SAFETY: as above; the three buffers are distinct, being lent as `&mut`.
     let number = unsafe {
         uviktalik_begin(
@@ -102,7 +106,7 @@ pub fn begin(image: &[u8], regs: &[u32; 16], buffers: Buffers) -> Began {
 pub fn run(image: &[u8], state: &State, buffers: Buffers, lists: Lists, budget: u32) -> Ran {
     let Buffers { mem, v, a } = buffers;
     let Lists { reports, outputs } = lists;
-    let (mut words, mut reason, mut fault) = (words_of(state), 0, 0);
+    let (mut words, mut reason, mut fault) = (words_of(state), u8::MAX, usize::MAX);
     // SAFETY: as above, of the lists too.
     let number = unsafe {
         uviktalik_run(

@@ -1,6 +1,7 @@
 //! Times the checker, the interpreter and the bare machine on three long images, in turn, in one
-//! process, and prints the medians and their ratios (docs/SPEED.md). It fails if the checker and the
-//! interpreter leave anything different; a time is no reason to fail.
+//! process, and prints the medians and their ratios (docs/SPEED.md). It fails if a run is not the clean
+//! one that it should be, or the checker and the interpreter leave anything different; a time is no
+//! reason to fail.
 
 use std::env;
 use std::process::ExitCode;
@@ -11,7 +12,7 @@ use compare::checker;
 use compare::images::op::{
     ADD, AND, EQ, LD32, LD8, LTU, MUL, OR, SAR, SHL, SHR, ST32, ST8, SUB, XOR,
 };
-use compare::images::{Image, Operand, Region, Row, FILLED, UNDEFINED};
+use compare::images::{Image, Operand, Region, Row, FILLED, MOST_ROWS, UNDEFINED};
 use compare::interpreter;
 use compare::prng::Prng;
 use compare::types::{Buffers, Engine, Lists, Ran};
@@ -21,8 +22,11 @@ const BUDGET: u32 = 1_000_000;
 const REPORT_WORDS: usize = 256;
 const OUTPUT_WORDS: usize = 512;
 const ROUNDS: usize = 61;
+const STOPPED: u32 = 1;
+const ENGINES: [Engine; 2] = [checker::ENGINE, interpreter::ENGINE];
+const SHORT_BUDGETS: [u32; 4] = [1, 1_000, 3_000, 10_000];
 /// Calls that are timed together where one is too short for the clock.
-const SHORT_CALLS: usize = 2_000;
+const SHORT_CALLS: usize = 200;
 
 /// A word with which a loop starts.
 fn set(d: u8, word: u32) -> Row {
@@ -147,12 +151,13 @@ fn timed(engine: &Engine, image: &[u8], m: usize, budget: u32, runs: usize) -> (
     (ran, desk, time)
 }
 
-/// The same of the bare machine.
-fn timed_bare(image: &[u8], m: usize) -> f64 {
+/// The same of the bare machine: its reason, its steps and the nanoseconds.
+fn timed_bare(image: &[u8], m: usize) -> (u32, u32, f64) {
     let mut bare = Bare::begin(image, &registers(m), &vec![0; m]);
     let start = Instant::now();
-    bare.run(image, OUTPUT_WORDS / 2, BUDGET);
-    start.elapsed().as_nanos() as f64 / f64::from(bare.steps)
+    let reason = bare.run(image, OUTPUT_WORDS / 2, BUDGET);
+    let time = start.elapsed().as_nanos() as f64;
+    (reason, bare.steps, time)
 }
 
 fn median(mut times: Vec<f64>) -> f64 {
@@ -160,24 +165,32 @@ fn median(mut times: Vec<f64>) -> f64 {
     times[times.len() / 2]
 }
 
-/// Rounds in which each engine runs in turn; false if two runs leave anything different.
-fn measure(name: &str, image: &Image, rounds: usize) -> bool {
+/// A run that was taken to STOP without a report.
+fn clean(ran: &Ran) -> bool {
+    ran.number == 0 && ran.reason == STOPPED && ran.state.reports == 0
+}
+
+/// Rounds in which each engine runs in turn; the complaint, if two runs leave anything different.
+fn measure(name: &str, image: &Image, rounds: usize) -> Result<(), String> {
     let bytes = image.bytes();
     let m = image.m as usize;
-    let engines = [&checker::ENGINE, &interpreter::ENGINE];
     let mut times = [Vec::new(), Vec::new(), Vec::new()];
     let mut first: Option<(Ran, Desk)> = None;
     for _ in 0..rounds {
-        for (engine, times) in engines.iter().zip(&mut times) {
+        for (engine, times) in ENGINES.iter().zip(&mut times) {
             let (ran, desk, time) = timed(engine, &bytes, m, BUDGET, 1);
-            times.push(time / f64::from(ran.state.steps));
             let left = (ran, desk);
-            if first.get_or_insert_with(|| left.clone()) != &left {
-                println!("{name}: {} leaves something else", engine.name);
-                return false;
+            if !clean(&ran) || first.get_or_insert_with(|| left.clone()) != &left {
+                return Err(format!("{name}: {} leaves something else", engine.name));
             }
+            times.push(time / f64::from(ran.state.steps));
         }
-        times[2].push(timed_bare(&bytes, m));
+        let steps = first.as_ref().map_or(0, |(ran, _)| ran.state.steps);
+        let (reason, bare_steps, time) = timed_bare(&bytes, m);
+        if (reason, bare_steps) != (STOPPED, steps) {
+            return Err(format!("{name}: the bare machine ends with {reason} at {bare_steps}"));
+        }
+        times[2].push(time / f64::from(steps));
     }
     let steps = first.map_or(0, |(ran, _)| ran.state.steps);
     let [ours, plain, bare] = times.map(median);
@@ -186,23 +199,27 @@ fn measure(name: &str, image: &Image, rounds: usize) -> bool {
         ours / plain,
         ours / bare
     );
-    true
+    Ok(())
 }
 
-/// A call that takes one step of an image with 512 instructions: reading and decoding, mostly.
+/// Calls of so many steps on the arithmetic image, made as long as an image can be.
 fn measure_short(rounds: usize) {
-    let image = Image { m: 16, rows: vec![set(1, 1); 512], regions: vec![], data: vec![] };
+    let mut image = arithmetic();
+    image.rows.resize(MOST_ROWS as usize, Row::stop());
     let bytes = image.bytes();
-    let mut times = [Vec::new(), Vec::new()];
-    for _ in 0..rounds {
-        for (engine, times) in [&checker::ENGINE, &interpreter::ENGINE].iter().zip(&mut times) {
-            times.push(timed(engine, &bytes, 16, 1, SHORT_CALLS).2 / SHORT_CALLS as f64);
+    println!("a call on an image of {MOST_ROWS} instructions, nanoseconds");
+    println!("budget   checker  interpreter  of interpreter");
+    for budget in SHORT_BUDGETS {
+        let mut times = [Vec::new(), Vec::new()];
+        for _ in 0..rounds {
+            for (engine, times) in ENGINES.iter().zip(&mut times) {
+                let time = timed(engine, &bytes, image.m as usize, budget, SHORT_CALLS).2;
+                times.push(time / SHORT_CALLS as f64);
+            }
         }
+        let [ours, plain] = times.map(median);
+        println!("{budget:6} {ours:9.0} {plain:12.0} {:15.2}", ours / plain);
     }
-    let [ours, plain] = times.map(median);
-    println!(
-        "a call with budget 1, 512 instructions: checker {ours:.0} ns, interpreter {plain:.0} ns"
-    );
 }
 
 fn main() -> ExitCode {
@@ -211,7 +228,12 @@ fn main() -> ExitCode {
     println!("image         steps  checker  interpreter   bare  of interpreter  of bare");
     let images =
         [("arithmetic", arithmetic()), ("byte copy", byte_copy()), ("word sweep", word_sweep())];
-    let same = images.iter().all(|(name, image)| measure(name, image, rounds));
+    for (name, image) in &images {
+        if let Err(complaint) = measure(name, image, rounds) {
+            println!("{complaint}");
+            return ExitCode::FAILURE;
+        }
+    }
     measure_short(rounds);
-    ExitCode::from(u8::from(!same))
+    ExitCode::SUCCESS
 }

@@ -1,4 +1,4 @@
--- The instruction that each case of the flat form is (private to the checker: a run decodes into it, and every promise is about `meaning`).
+-- The instruction that each case of the flat form is (private to the checker: a run decodes into it, and what is promised of it is promised of its `meaning`).
 use Rattle.rules.specs.declared.Operation.the-variants.{Add, Sub, Mul, And, Or, Xor, Shl, Shr, Sar, Eq, Ltu}
 use Rattle.image.specs.declared.Operand.the-variants.{Register, Literal}
 use Rattle.image.specs.declared.Instruction.{Instruction}

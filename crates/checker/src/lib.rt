@@ -12,12 +12,13 @@ pub mod registers; // registers.rt: registers as plain words
 mod beginning; // beginning.rt: what an accepted image makes of the buffers
 mod calls; // calls.rt: the public calls with their refusals
 mod counting; // counting.rt: the counts
+mod dispatch; // dispatch.rt: one step
 mod flat; // flat.rt: the form of an instruction that a run steps through
 mod kinds; // kinds.rt: the kinds of report
 mod lists; // lists.rt: the two lists
 mod ranges; // ranges.rt: ranges of bytes
 mod running; // running.rt: the run
-mod step; // step.rt: one step
+mod step; // step.rt: what each group of instructions does
 
 pub use calls::begin;
 pub use calls::run;

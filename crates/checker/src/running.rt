@@ -1,11 +1,11 @@
 // The run (document 01, A run, its lists and its end): a dispatch loop whose value is the first stop
 // reason that it meets.
 use super::Counts;
+use super::dispatch;
 use super::flat;
 use super::flat::Flat;
 use super::limits::OUTPUT;
 use super::reasons;
-use super::step;
 use image::Decoded;
 use image::Instruction;
 use image::format::MOST_N;
@@ -131,7 +131,7 @@ pub fn run_on(
         if found != reasons::GOES_ON {
             break found;
         }
-        c = step::step(c, i, regs, shadows, mem, vbits, abits, reports, outputs);
+        c = dispatch::step(c, i, regs, shadows, mem, vbits, abits, reports, outputs);
         left -= 1;
     };
     Ended {

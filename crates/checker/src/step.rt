@@ -1,9 +1,8 @@
-// One step (document 01, the table of instructions and Shadow rules): a function for each group of
-// instructions, each equal to `stepped` of its instruction. A function is lent what it touches, and
-// promises its part whatever the rest of the machine is.
+// What the instructions do (document 01, the table of instructions and Shadow rules): a function for
+// each group of them, each equal to `stepped` of its instruction. A function is lent what it touches,
+// and promises its part whatever the rest of the machine is.
 use super::Counts;
 use super::counting;
-use super::flat::Flat;
 use super::kinds;
 use super::lists;
 use super::ranges;
@@ -18,14 +17,13 @@ ghost use mathlib.Core.List.{List, [], _∷_};
 ghost use Prim.Native.Nat.{ℕ, _+_, _^_, _≤_, _<_};
 ghost use lib.ListN.{length, getD, set};
 ghost use Rattle.image.specs.Format.{registers};
-ghost use Rattle.image.specs.Accepted.{OperandFits, Fits};
-ghost use Rattle.image.specs.declared.Instruction.the-variants.{Stop, Move, Compute, Load, Store, Jump, Emit, Mark};
+ghost use Rattle.image.specs.Accepted.{OperandFits};
+ghost use Rattle.image.specs.declared.Instruction.the-variants.{Move, Compute, Load, Store, Jump, Emit, Mark};
 ghost use Rattle.machine.specs.Machine.{parts};
 ghost use Rattle.machine.specs.Instructions.{operandData, addressOf};
 ghost use Rattle.machine.specs.Steps.{operandV, sameRegister, markOf, report, ifUndefined, ifBlocked};
 ghost use Rattle.machine.specs.Checker.{stepped};
 ghost use Rattle.checker.specs.Views.{world};
-ghost use Rattle.checker.specs.Flat.{meaning};
 ghost use Rattle.checker.specs.Pieces.{Room, Reports, Sizes};
 
 // ---- operands and registers
@@ -114,7 +112,7 @@ fn use_bytes(c: Counts, kind: u32, whole: bool, place: u32, reports: &mut [u32])
 }
 
 // ---- the groups of instructions
-fn copy(c: Counts, d: u8, b: Operand, regs: &mut [u32; 16], shadows: &mut [u32; 16]) -> Counts
+pub fn copy(c: Counts, d: u8, b: Operand, regs: &mut [u32; 16], shadows: &mut [u32; 16]) -> Counts
     requires { ⌜ Room c × (d < registers) × OperandFits b ⌝ }
     ensures { λ t. ⌜ ((mem memV memA reports outputs : List ℕ) → world t (parts (now (regs .exit)) (now (shadows .exit)) mem memV memA) reports outputs ≡ stepped (Move d b) (world c (parts (now (regs .entry)) (now (shadows .entry)) mem memV memA) reports outputs)) ⌝ }
 {
@@ -124,7 +122,7 @@ fn copy(c: Counts, d: u8, b: Operand, regs: &mut [u32; 16], shadows: &mut [u32; 
     counting::next(c)
 }
 
-fn compute(
+pub fn compute(
     c: Counts,
     op: Operation,
     d: u8,
@@ -146,7 +144,7 @@ fn compute(
     counting::next(c)
 }
 
-fn load(
+pub fn load(
     c: Counts,
     width: Width,
     d: u8,
@@ -173,7 +171,7 @@ fn load(
     counting::next(u)
 }
 
-fn store(
+pub fn store(
     c: Counts,
     width: Width,
     d: u8,
@@ -201,7 +199,7 @@ fn store(
     counting::next(u)
 }
 
-fn jump(
+pub fn jump(
     c: Counts,
     a: u8,
     target: u32,
@@ -220,7 +218,7 @@ fn jump(
     counting::go_to(t, target)
 }
 
-fn emit(
+pub fn emit(
     c: Counts,
     a: u8,
     port: u32,
@@ -248,7 +246,7 @@ fn mark_of(addressable: bool) -> u8
     }
 }
 
-fn mark(
+pub fn mark(
     c: Counts,
     addressable: bool,
     start: u32,
@@ -264,257 +262,4 @@ fn mark(
     ranges::fill(ranges::UNDEFINED, vbits, at, count);
     ranges::fill(mark_of(addressable), abits, at, count);
     counting::next(c)
-}
-
-// ---- the step
-pub fn step(
-    c: Counts,
-    i: Flat,
-    regs: &mut [u32; 16],
-    shadows: &mut [u32; 16],
-    mem: &mut [u8],
-    vbits: &mut [u8],
-    abits: &mut [u8],
-    reports: &mut [u32],
-    outputs: &mut [u32],
-) -> Counts
-    requires { ⌜ Room c × Sizes (length (now abits)) (now mem) (now vbits) (now abits) × ((n : ℕ) × Fits n (length (now abits)) (meaning i)) ⌝ }
-    ensures { λ t. ⌜ world t (parts (now (regs .exit)) (now (shadows .exit)) (now (mem .exit)) (now (vbits .exit)) (now (abits .exit))) (now (reports .exit)) (now (outputs .exit)) ≡ stepped (meaning i) (world c (parts (now (regs .entry)) (now (shadows .entry)) (now (mem .entry)) (now (vbits .entry)) (now (abits .entry))) (now (reports .entry)) (now (outputs .entry))) ⌝ }
-{
-    match i {
-        Flat::Stop => counting::next(c),
-        Flat::MoveRegister { d, b } => copy(c, d, Operand::Register(b), regs, shadows),
-        Flat::MoveLiteral { d, y } => copy(c, d, Operand::Literal(y), regs, shadows),
-        Flat::AddRegister { d, a, b } => compute(
-            c,
-            Operation::Add,
-            d,
-            a,
-            Operand::Register(b),
-            regs,
-            shadows,
-        ),
-        Flat::AddLiteral { d, a, y } => compute(
-            c,
-            Operation::Add,
-            d,
-            a,
-            Operand::Literal(y),
-            regs,
-            shadows,
-        ),
-        Flat::SubRegister { d, a, b } => compute(
-            c,
-            Operation::Sub,
-            d,
-            a,
-            Operand::Register(b),
-            regs,
-            shadows,
-        ),
-        Flat::SubLiteral { d, a, y } => compute(
-            c,
-            Operation::Sub,
-            d,
-            a,
-            Operand::Literal(y),
-            regs,
-            shadows,
-        ),
-        Flat::MulRegister { d, a, b } => compute(
-            c,
-            Operation::Mul,
-            d,
-            a,
-            Operand::Register(b),
-            regs,
-            shadows,
-        ),
-        Flat::MulLiteral { d, a, y } => compute(
-            c,
-            Operation::Mul,
-            d,
-            a,
-            Operand::Literal(y),
-            regs,
-            shadows,
-        ),
-        Flat::AndRegister { d, a, b } => compute(
-            c,
-            Operation::And,
-            d,
-            a,
-            Operand::Register(b),
-            regs,
-            shadows,
-        ),
-        Flat::AndLiteral { d, a, y } => compute(
-            c,
-            Operation::And,
-            d,
-            a,
-            Operand::Literal(y),
-            regs,
-            shadows,
-        ),
-        Flat::OrRegister { d, a, b } => compute(
-            c,
-            Operation::Or,
-            d,
-            a,
-            Operand::Register(b),
-            regs,
-            shadows,
-        ),
-        Flat::OrLiteral { d, a, y } => compute(
-            c,
-            Operation::Or,
-            d,
-            a,
-            Operand::Literal(y),
-            regs,
-            shadows,
-        ),
-        Flat::XorRegister { d, a, b } => compute(
-            c,
-            Operation::Xor,
-            d,
-            a,
-            Operand::Register(b),
-            regs,
-            shadows,
-        ),
-        Flat::XorLiteral { d, a, y } => compute(
-            c,
-            Operation::Xor,
-            d,
-            a,
-            Operand::Literal(y),
-            regs,
-            shadows,
-        ),
-        Flat::ShlRegister { d, a, b } => compute(
-            c,
-            Operation::Shl,
-            d,
-            a,
-            Operand::Register(b),
-            regs,
-            shadows,
-        ),
-        Flat::ShlLiteral { d, a, y } => compute(
-            c,
-            Operation::Shl,
-            d,
-            a,
-            Operand::Literal(y),
-            regs,
-            shadows,
-        ),
-        Flat::ShrRegister { d, a, b } => compute(
-            c,
-            Operation::Shr,
-            d,
-            a,
-            Operand::Register(b),
-            regs,
-            shadows,
-        ),
-        Flat::ShrLiteral { d, a, y } => compute(
-            c,
-            Operation::Shr,
-            d,
-            a,
-            Operand::Literal(y),
-            regs,
-            shadows,
-        ),
-        Flat::SarRegister { d, a, b } => compute(
-            c,
-            Operation::Sar,
-            d,
-            a,
-            Operand::Register(b),
-            regs,
-            shadows,
-        ),
-        Flat::SarLiteral { d, a, y } => compute(
-            c,
-            Operation::Sar,
-            d,
-            a,
-            Operand::Literal(y),
-            regs,
-            shadows,
-        ),
-        Flat::EqRegister { d, a, b } => compute(
-            c,
-            Operation::Eq,
-            d,
-            a,
-            Operand::Register(b),
-            regs,
-            shadows,
-        ),
-        Flat::EqLiteral { d, a, y } => compute(
-            c,
-            Operation::Eq,
-            d,
-            a,
-            Operand::Literal(y),
-            regs,
-            shadows,
-        ),
-        Flat::LtuRegister { d, a, b } => compute(
-            c,
-            Operation::Ltu,
-            d,
-            a,
-            Operand::Register(b),
-            regs,
-            shadows,
-        ),
-        Flat::LtuLiteral { d, a, y } => compute(
-            c,
-            Operation::Ltu,
-            d,
-            a,
-            Operand::Literal(y),
-            regs,
-            shadows,
-        ),
-        Flat::Load { d, a, width, imm } => load(
-            c,
-            width,
-            d,
-            a,
-            imm,
-            regs,
-            shadows,
-            &mem[..],
-            &vbits[..],
-            &abits[..],
-            reports,
-        ),
-        Flat::Store { d, a, width, imm } => store(
-            c,
-            width,
-            d,
-            a,
-            imm,
-            regs,
-            shadows,
-            mem,
-            vbits,
-            &abits[..],
-            reports,
-        ),
-        Flat::Jump { a, target } => jump(c, a, target, regs, shadows, reports),
-        Flat::Emit { a, port } => emit(c, a, port, regs, shadows, reports, outputs),
-        Flat::Mark {
-            addressable,
-            start,
-            size,
-        } => mark(c, addressable, start, size, vbits, abits),
-    }
 }
