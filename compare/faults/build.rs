@@ -6,12 +6,38 @@ use std::{env, fs};
 const INTERPRETER: &str = "../src/interpreter.rs";
 const FAULTS: &str = "../faults.txt";
 
-/// A planted fault: lines of the interpreter and what stands in their place.
+/// Lines of the interpreter and what stands in their place.
+#[derive(Default)]
+struct Edit {
+    old: Vec<String>,
+    new: Vec<String>,
+}
+
+impl Edit {
+    /// The lines with the old ones, which must be there exactly once, replaced.
+    fn applied<'a>(&'a self, lines: &[&'a str], name: &str) -> Vec<&'a str> {
+        let count = self.old.len();
+        assert!(count > 0, "{FAULTS}: fault {name} has no old lines");
+        let is_old =
+            |part: &[&str]| part.iter().zip(&self.old).all(|(line, old)| line.trim() == old);
+        let parts = lines.windows(count).enumerate();
+        let places: Vec<usize> = parts.filter(|(_, part)| is_old(part)).map(|(at, _)| at).collect();
+        let [at] = places[..] else {
+            let (old, found) = (&self.old, places.len());
+            panic!(
+                "{FAULTS}: fault {name}: {old:?} occur {found} times in {INTERPRETER}, not once"
+            );
+        };
+        let new: Vec<&str> = self.new.iter().map(String::as_str).collect();
+        [&lines[..at], &new, &lines[at + count..]].concat()
+    }
+}
+
+/// A planted fault: one edit, or several that belong together.
 struct Fault {
     name: String,
     sentence: String,
-    old: Vec<String>,
-    new: Vec<String>,
+    edits: Vec<Edit>,
 }
 
 impl Fault {
@@ -21,36 +47,30 @@ impl Fault {
             panic!("{FAULTS}: `{}` is not `fault NAME: sentence`", block[0]);
         };
         let (name, sentence) = (name.trim().to_string(), sentence.trim().to_string());
-        let mut fault = Fault { name, sentence, old: Vec::new(), new: Vec::new() };
+        let mut edits = vec![Edit::default()];
         for line in &block[1..] {
-            match line.split_at_checked(1) {
-                Some(("-", text)) if fault.new.is_empty() => fault.old.push(text.trim().into()),
-                Some(("+", text)) => fault.new.push(text.trim().into()),
-                _ => panic!("{FAULTS}: fault {}: what is `{line}`?", fault.name),
+            if line.starts_with('-') && edits.last().is_some_and(|edit| !edit.new.is_empty()) {
+                edits.push(Edit::default());
+            }
+            match (line.split_at_checked(1), edits.last_mut()) {
+                (Some(("-", text)), Some(edit)) => edit.old.push(text.trim().into()),
+                (Some(("+", text)), Some(edit)) => edit.new.push(text.trim().into()),
+                _ => panic!("{FAULTS}: fault {name}: what is `{line}`?"),
             }
         }
-        fault
+        Fault { name, sentence, edits }
     }
 
-    /// The source with the old lines, which must be there exactly once, replaced.
     fn planted(&self, source: &[&str]) -> String {
-        let is_old = |lines: &&[&str]| lines.iter().zip(&self.old).all(|(a, b)| a.trim() == b);
-        let count = self.old.len();
-        assert!(count > 0, "{FAULTS}: fault {} has no old lines", self.name);
-        let found = source.windows(count).filter(is_old).count();
-        assert!(
-            found == 1,
-            "{FAULTS}: fault {}: its old lines occur {found} times in {INTERPRETER}, not once",
-            self.name
-        );
-        let at = source.windows(count).position(|lines| is_old(&lines)).unwrap_or(0);
-        let new: Vec<&str> = self.new.iter().map(String::as_str).collect();
-        [&source[..at], &new, &source[at + count..]].concat().join("\n")
+        let lines = source.to_vec();
+        let lines = self.edits.iter().fold(lines, |lines, edit| edit.applied(&lines, &self.name));
+        lines.join("\n")
     }
 }
 
 fn faults(text: &str) -> Vec<Fault> {
-    let lines: Vec<&str> = text.lines().map(str::trim_end).collect();
+    let lines = text.lines().map(str::trim_end).filter(|line| !line.starts_with('#'));
+    let lines: Vec<&str> = lines.collect();
     let blocks = lines.split(|line| line.is_empty()).filter(|block| !block.is_empty());
     blocks.map(Fault::of_block).collect()
 }

@@ -5,7 +5,7 @@
 const MOST_OUTPUTS: usize = 256;
 
 /// The answer of a run that trapped.
-const TRAPPED: u32 = 6;
+pub const TRAPPED: u32 = 6;
 
 pub struct Bare {
     pub regs: [u32; 16],

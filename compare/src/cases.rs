@@ -27,7 +27,7 @@ pub struct ListPair {
     pub outputs: Vec<u32>,
 }
 
-#[derive(Clone, Copy)]
+#[derive(Clone, Copy, PartialEq, Eq)]
 pub enum Budget {
     Exactly(u32),
     /// What is missing to this many steps, modulo 4,294,967,296.
@@ -43,7 +43,7 @@ impl Budget {
     }
 }
 
-#[derive(Clone, Copy)]
+#[derive(Clone, Copy, PartialEq, Eq)]
 pub enum Call {
     Read,
     Begin([u32; 16]),
@@ -174,12 +174,13 @@ fn wrong_length(prng: &mut Prng, buffer: &mut Vec<u8>) {
 /// One thing that makes a run say no.
 fn spoil(prng: &mut Prng, desk: &mut Desk, n: u32) {
     let places = desk.lists.outputs.len() as u32 / 2;
+    let most = edges::MOST_STEPS;
     match prng.below(9) {
         0 => wrong_length(prng, &mut desk.mem),
         1 => wrong_length(prng, &mut desk.v),
         2 => wrong_length(prng, &mut desk.a),
         3 => desk.lists = any_lists(prng),
-        4 => desk.state.steps = prng.pick(&[999_999, 1_000_000, 1_000_001, 0x8000_0000, u32::MAX]),
+        4 => desk.state.steps = prng.pick(&[most - 1, most, most + 1, 0x8000_0000, u32::MAX]),
         5 if !desk.a.is_empty() => {
             let place = prng.place(desk.a.len());
             desk.a[place] = prng.pick(&[2, 3, 128, 255]);

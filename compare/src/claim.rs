@@ -1,8 +1,10 @@
 //! Demand 3 tried from outside: the checker and the bare machine side by side, with other leftovers.
 
+mod clause;
+
 use std::fmt;
 
-use crate::bare::Bare;
+use crate::bare::{Bare, TRAPPED};
 use crate::calls::{self, Answer};
 use crate::cases::{self, Budget, Call, Desk};
 use crate::clean;
@@ -13,13 +15,13 @@ use crate::prng::Prng;
 use crate::programs::{self, Maker};
 use crate::types::Engine;
 
+pub use clause::{Broken, Clause, CLAUSES};
+
 const STREAM: u64 = 2;
 /// Calls after which a series is long enough.
 const MOST_CALLS: u32 = 1200;
 /// Calls after which a series is given up that no run has been accepted in.
 const MOST_REFUSED: u32 = 20;
-/// The bare machine's answer when it traps.
-const TRAPPED: u32 = 6;
 /// Calls after the first report, to see that the count of reports does not go back to 0.
 const MOST_REPORTED: u32 = 3;
 /// A program is counted under the highest of these step counts that it reached without a report.
@@ -71,10 +73,12 @@ impl Tally {
         }
     }
 
-    /// Is there enough behind the claim: programs clean for dozens of steps, undefined bits that differ?
+    /// Is too little behind the claim: programs clean for dozens of steps, undefined bits that
+    /// differ, refused runs, outputs?
     pub fn is_empty(&self) -> bool {
         let dozens: u64 = self.clean[3..].iter().sum();
-        dozens < self.programs / 8 || self.differing < self.looks / 2 || self.outputs == 0
+        let few = 8 * dozens < self.programs || 2 * self.differing < self.looks;
+        few || self.programs == 0 || self.refused == 0 || self.outputs == 0
     }
 
     pub fn table(&self) -> String {
@@ -99,20 +103,40 @@ impl Tally {
     }
 }
 
-/// A clause of the claim that does not hold.
-pub struct Broken {
+/// What went wrong in a claim case.
+enum Wrong {
+    /// Demand 3 speaks of accepted beginnings only, but document 01 accepts every claim image.
+    Refused,
+    Broken(Broken),
+}
+
+/// A claim case that went wrong, with all that is needed to see it again.
+pub struct Failure {
     seed: u64,
     case: u64,
     image: String,
     steps: u32,
-    clause: String,
+    wrong: Wrong,
 }
 
-impl fmt::Display for Broken {
+impl Failure {
+    /// The clause, if it is the claim that is broken.
+    pub fn clause(&self) -> Option<Clause> {
+        match &self.wrong {
+            Wrong::Refused => None,
+            Wrong::Broken(broken) => Some(broken.clause),
+        }
+    }
+}
+
+impl fmt::Display for Failure {
     fn fmt(&self, out: &mut fmt::Formatter) -> fmt::Result {
-        writeln!(out, "claim broken: --seed {} --claim {}", self.seed, self.case)?;
+        writeln!(out, "claim: --seed {} --claim {}", self.seed, self.case)?;
         writeln!(out, "  image {}", self.image)?;
-        write!(out, "  after {} steps: {}", self.steps, self.clause)
+        match &self.wrong {
+            Wrong::Refused => write!(out, "  the beginning was refused"),
+            Wrong::Broken(broken) => write!(out, "  broken after {} steps: {broken}", self.steps),
+        }
     }
 }
 
@@ -124,6 +148,10 @@ struct Pair<'a> {
     clean_steps: u32,
 }
 
+fn panicked(message: String) -> Broken {
+    Clause::Panic.broken(message)
+}
+
 /// Bits that differ, those with V 0 and those with V 1.
 fn split(left: u32, right: u32, shadow: u32) -> (u32, u32) {
     let differing = left ^ right;
@@ -131,7 +159,7 @@ fn split(left: u32, right: u32, shadow: u32) -> (u32, u32) {
 }
 
 impl Pair<'_> {
-    fn begin<'a>(checker: &'a Engine, image: &Image, prng: &mut Prng) -> Result<Pair<'a>, String> {
+    fn begin<'a>(checker: &'a Engine, image: &Image, prng: &mut Prng) -> Result<Pair<'a>, Wrong> {
         let mut desk = cases::desk(prng, image.bytes(), image.m);
         if prng.one_in(16) {
             std::mem::swap(&mut desk.lists, &mut desk.spare);
@@ -144,46 +172,44 @@ impl Pair<'_> {
             desk.mem.iter().map(|&byte| if opposite { !byte } else { prng.byte() }).collect();
         match calls::make(checker, &mut desk, Call::Begin(registers)) {
             Answer::Begun(began) if began.number == 0 => {}
-            Answer::Panicked(message) => return Err(format!("the beginning {message}")),
-            _ => return Err("the beginning was refused".to_string()),
+            Answer::Panicked(message) => return Err(Wrong::Broken(panicked(message))),
+            _ => return Err(Wrong::Refused),
         }
-        let bare = guarded(|| Bare::begin(&desk.image, &other, &leftovers))?;
+        let bare = guarded(|| Bare::begin(&desk.image, &other, &leftovers));
+        let bare = bare.map_err(|message| Wrong::Broken(panicked(message)))?;
         Ok(Pair { checker, desk, bare, trapped: false, clean_steps: 0 })
     }
 
     /// A run on the checker and, unless refused, on the bare machine; the two stop reasons.
-    fn run(&mut self, budget: Budget) -> Result<Option<[u32; 2]>, String> {
+    fn run(&mut self, budget: Budget) -> Result<Option<[u32; 2]>, Broken> {
         let budget = budget.after(self.desk.state.steps);
         let call = Call::Run(Budget::Exactly(budget));
         match calls::make(self.checker, &mut self.desk, call) {
             Answer::Ran(ran) if ran.number == 0 => {
                 let places = self.desk.lists.outputs.len() / 2;
-                let reason = guarded(|| self.bare.run(&self.desk.image, places, budget))?;
+                let reason = guarded(|| self.bare.run(&self.desk.image, places, budget));
+                let reason = reason.map_err(panicked)?;
                 self.trapped |= reason == TRAPPED;
                 Ok(Some([ran.reason, reason]))
             }
-            Answer::Panicked(message) => Err(format!("the run {message}")),
+            Answer::Panicked(message) => Err(panicked(message)),
             _ => Ok(None),
         }
     }
 
     /// The claim's clauses after a step, while no report is made.
-    fn look(&mut self, tally: &mut Tally) -> Result<(), String> {
+    fn look(&mut self, tally: &mut Tally) -> Result<(), Broken> {
         let (state, bare) = (&self.desk.state, &self.bare);
-        let same = |what: &str, left: u32, right: u32| match left == right {
-            true => Ok(()),
-            false => Err(format!("{what}: checker {left:#x}, bare machine {right:#x}")),
-        };
         if self.trapped {
-            return Err(format!("the bare machine trapped at its step {}", bare.steps));
+            return Err(Clause::Trap.broken(format!("of the bare machine, steps {}", bare.steps)));
         }
-        same("steps taken", state.steps, bare.steps)?;
-        same("index", state.index, bare.index)?;
-        same("outputs made", state.outputs, bare.outputs.len() as u32)?;
+        Clause::Steps.same("", state.steps, bare.steps)?;
+        Clause::Index.same("", state.index, bare.index)?;
+        Clause::OutputCount.same("", state.outputs, bare.outputs.len() as u32)?;
         let listed = self.desk.lists.outputs.chunks_exact(2);
         for (k, (listed, &(port, value))) in listed.zip(&bare.outputs).enumerate() {
-            same(&format!("port of output {k}"), listed[0], port)?;
-            same(&format!("value of output {k}"), listed[1], value)?;
+            Clause::Port.same(format_args!("output {k}, "), listed[0], port)?;
+            Clause::Value.same(format_args!("output {k}, "), listed[1], value)?;
         }
         let unlike = self.registers()? | self.memory()?;
         self.clean_steps = state.steps;
@@ -193,30 +219,29 @@ impl Pair<'_> {
     }
 
     /// The undefined bits that differ, or the clause on defined bits.
-    fn registers(&self) -> Result<u32, String> {
+    fn registers(&self) -> Result<u32, Broken> {
         let state = &self.desk.state;
         let mut unlike = 0;
         for (k, &theirs) in self.bare.regs.iter().enumerate() {
             let (wrong, free) = split(state.regs[k], theirs, state.vregs[k]);
             if wrong != 0 {
-                return Err(format!("register {k}: its defined bits {wrong:#x} differ"));
+                return Err(Clause::RegisterBits.broken(format!("{wrong:#x} of register {k}")));
             }
             unlike |= free;
         }
         Ok(unlike)
     }
 
-    fn memory(&self) -> Result<u32, String> {
+    fn memory(&self) -> Result<u32, Broken> {
         let desk = &self.desk;
         let mut unlike = 0;
         for (k, &open) in self.bare.open.iter().enumerate() {
-            if open != (desk.a[k] == 1) {
-                return Err(format!("byte {k}: A is {}, the bare mark is {open}", desk.a[k]));
-            }
+            let of = format_args!("byte {k}, open on ");
+            Clause::Mark.same(of, u32::from(desk.a[k] == 1), u32::from(open))?;
             let [ours, theirs, shadow] = [desk.mem[k], self.bare.mem[k], desk.v[k]].map(u32::from);
             let (wrong, free) = split(ours, theirs, shadow);
             if open && wrong != 0 {
-                return Err(format!("byte {k}: its defined bits {wrong:#x} differ"));
+                return Err(Clause::ByteBits.broken(format!("{wrong:#x} of byte {k}")));
             }
             unlike |= if open { free } else { 0 };
         }
@@ -224,7 +249,7 @@ impl Pair<'_> {
     }
 
     /// Runs until the program has ended twice, reports are made or it is long enough.
-    fn series(&mut self, prng: &mut Prng, tally: &mut Tally) -> Result<(), String> {
+    fn series(&mut self, prng: &mut Prng, tally: &mut Tally) -> Result<(), Broken> {
         let step_by_step = !prng.one_in(4);
         let (mut ends, mut reported, mut accepted) = (0, 0, false);
         self.look(tally)?;
@@ -245,17 +270,13 @@ impl Pair<'_> {
     }
 
     /// The claim's clause after a run: equal stop reasons. Did the program end?
-    fn ended(&self, reasons: Option<[u32; 2]>, tally: &mut Tally) -> Result<bool, String> {
-        match reasons {
-            Some([ours, theirs]) if ours != theirs => {
-                Err(format!("stop reason: checker {ours}, bare machine {theirs}"))
-            }
-            Some([reason, _]) => Ok(reason != 3),
-            None => {
-                tally.refused += 1;
-                Ok(false)
-            }
-        }
+    fn ended(&self, reasons: Option<[u32; 2]>, tally: &mut Tally) -> Result<bool, Broken> {
+        let Some([ours, theirs]) = reasons else {
+            tally.refused += 1;
+            return Ok(false);
+        };
+        Clause::StopReason.same("", ours, theirs)?;
+        Ok(ours != 3)
     }
 }
 
@@ -269,19 +290,21 @@ fn budget(prng: &mut Prng, step_by_step: bool) -> Budget {
 }
 
 /// Claim case k, a program made to run clean or, one time in four, any program.
-pub fn try_case(checker: &Engine, seed: u64, number: u64, tally: &mut Tally) -> Option<Broken> {
+pub fn try_case(
+    checker: &Engine,
+    seed: u64,
+    number: u64,
+    tally: &mut Tally,
+) -> Result<(), Failure> {
     let mut prng = Prng::of_case(seed, STREAM, number);
     let maker = if number % 4 == 3 { prng.pick(&ANY_PROGRAM) } else { clean::clean };
     let image = maker(&mut prng);
-    let broken = |steps, clause| {
+    let failure = |steps, wrong| {
         let image = hex(&image.bytes());
-        Some(Broken { seed, case: number, image, steps, clause })
+        Failure { seed, case: number, image, steps, wrong }
     };
-    let mut pair = match Pair::begin(checker, &image, &mut prng) {
-        Ok(pair) => pair,
-        Err(clause) => return broken(0, clause),
-    };
+    let mut pair = Pair::begin(checker, &image, &mut prng).map_err(|wrong| failure(0, wrong))?;
     let answer = pair.series(&mut prng, tally);
     tally.close(&pair);
-    answer.err().and_then(|clause| broken(pair.desk.state.steps, clause))
+    answer.map_err(|broken| failure(pair.desk.state.steps, Wrong::Broken(broken)))
 }

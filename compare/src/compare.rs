@@ -61,7 +61,8 @@ fn first_difference(
         let before = desks[0].state;
         let [left, right] = &mut desks;
         let answers = [calls::make(engines[0], left, call), calls::make(engines[1], right, call)];
-        if answers[0] != answers[1] || desks[0] != desks[1] {
+        let panicked = answers.iter().any(|answer| matches!(answer, Answer::Panicked(_)));
+        if panicked || answers[0] != answers[1] || desks[0] != desks[1] {
             let names = [engines[0].name, engines[1].name];
             let difference = described(names, &answers, &desks);
             return Some((call_words(case, place, &before), difference));
@@ -147,6 +148,9 @@ impl Differ {
 
     fn answers(&mut self, answers: &[Answer; 2]) {
         match answers {
+            [Answer::Panicked(left), Answer::Panicked(right)] => {
+                self.found = Some(format!("both calls: {left}, {right}"));
+            }
             [Answer::Read(left, left_code), Answer::Read(right, right_code)] => {
                 self.header(left, right);
                 self.code(left_code, right_code);

@@ -31,5 +31,6 @@ pub fn in_order<T: Send>(
             });
         }
     });
-    answers.into_iter().filter_map(|answer| answer.into_inner().ok().flatten()).collect()
+    let answers = answers.into_iter().map(|answer| answer.into_inner().ok().flatten());
+    answers.map(|answer| answer.expect("every chunk has its answer")).collect()
 }

@@ -1,7 +1,7 @@
 //! Whether the comparison finds a planted fault: each faulty interpreter against the checker.
 
 use crate::checker;
-use crate::claim::{self, Tally};
+use crate::claim::{self, Clause, Tally, CLAUSES};
 use crate::compare::{self, Mismatch};
 use crate::coverage::Coverage;
 use crate::parallel;
@@ -17,8 +17,8 @@ pub struct Bite {
     sentence: &'static str,
     /// The first case in which the fault shows.
     found: Option<Mismatch>,
-    /// Claim cases until the fault, put in the checker's place, breaks the claim.
-    claim_broken: Option<u64>,
+    /// Claim cases until the fault, put in the checker's place, breaks the claim, and in what.
+    claim_broken: Option<(u64, Clause)>,
 }
 
 impl Bite {
@@ -30,9 +30,10 @@ impl Bite {
         let mut unused = Coverage::default();
         let found = (0..cases)
             .find_map(|k| compare::compare([&checker::ENGINE, faulty], plan, k, &mut unused));
-        let broken =
-            |&k: &u64| claim::try_case(faulty, plan.seed, k, &mut Tally::default()).is_some();
-        let claim_broken = (0..CLAIM_CASES).find(broken).map(|k| k + 1);
+        let claim_broken = (0..CLAIM_CASES).find_map(|k| {
+            let failure = claim::try_case(faulty, plan.seed, k, &mut Tally::default()).err()?;
+            Some((k + 1, failure.clause()?))
+        });
         Bite { name, sentence, found, claim_broken }
     }
 
@@ -40,17 +41,19 @@ impl Bite {
         self.found.is_some()
     }
 
-    pub fn breaks_claim(&self) -> bool {
-        self.claim_broken.is_some()
+    /// The clause of the claim that breaks first.
+    fn breaks(&self) -> Option<Clause> {
+        self.claim_broken.map(|(_, clause)| clause)
     }
 
     fn row(&self) -> String {
-        let claim = self.claim_broken.map_or("-".to_string(), |cases| cases.to_string());
+        let claim = self.claim_broken.map_or("-".to_string(), |(cases, _)| cases.to_string());
+        let clause = self.breaks().map_or("", Clause::name);
         let (cases, kind, difference) = match &self.found {
             Some(found) => ((found.case + 1).to_string(), found.kind, found.difference.as_str()),
             None => ("-".to_string(), "NOT FOUND", self.sentence),
         };
-        format!("{:<36}{cases:>7}{claim:>7}  {kind:<28}{difference}\n", self.name)
+        format!("{:<36}{cases:>7}{claim:>7}  {clause:<19}{kind:<28}{difference}\n", self.name)
     }
 }
 
@@ -63,7 +66,28 @@ pub fn bites(plan: &Plan, cases: u64, name: Option<&str>) -> Vec<Bite> {
 }
 
 pub fn table(bites: &[Bite]) -> String {
+    let [fault, clause, kind] = ["fault", "broken first", "found by"];
     let head =
-        format!("{:<36}{:>7}{:>7}  {:<28}difference\n", "fault", "cases", "claim", "found by");
+        format!("{fault:<36}{:>7}{:>7}  {clause:<19}{kind:<28}difference\n", "cases", "claim");
     bites.iter().fold(head, |table, bite| table + &bite.row())
+}
+
+/// How many faults break this clause of the claim before any other.
+fn breaking(bites: &[Bite], clause: Clause) -> usize {
+    bites.iter().filter(|bite| bite.breaks() == Some(clause)).count()
+}
+
+pub fn clause_table(bites: &[Bite]) -> String {
+    let row = |clause: &Clause| format!("{:<19}{:>4}\n", clause.name(), breaking(bites, *clause));
+    CLAUSES.iter().chain(&[Clause::Panic]).map(row).collect()
+}
+
+/// The clauses that no fault breaks first.
+pub fn unbroken(bites: &[Bite]) -> Vec<Clause> {
+    CLAUSES.into_iter().filter(|&clause| breaking(bites, clause) == 0).collect()
+}
+
+/// How many faults break some clause of the claim; a panic is none.
+pub fn breaking_any(bites: &[Bite]) -> usize {
+    CLAUSES.into_iter().map(|clause| breaking(bites, clause)).sum()
 }

@@ -4,11 +4,12 @@ use std::env;
 use std::ops::Range;
 use std::process::ExitCode;
 
-use compare::claim::{self, Tally};
+use compare::claim::{self, Tally, CLAUSES};
 use compare::compare::{compare, Mismatch};
 use compare::coverage::Coverage;
 use compare::plan::Plan;
-use compare::{checker, guard, interpreter, parallel, teeth};
+use compare::teeth::{self, Bite};
+use compare::{checker, guard, interpreter, parallel};
 
 const USAGE: &str = "compare [--seed S] [--cases K] [--case K0 | --claim K0 | --fault NAME]";
 /// Cases that a thread takes at a time.
@@ -40,7 +41,8 @@ fn options() -> Option<Options> {
             _ => return None,
         }
     }
-    Some(options)
+    let alone = [options.case.is_some(), options.claim.is_some(), options.fault.is_some()];
+    (alone.iter().filter(|&&given| given).count() <= 1).then_some(options)
 }
 
 /// These cases on both engines; how many mismatched, of which the first few are printed.
@@ -65,20 +67,21 @@ fn comparison(plan: &Plan, cases: Range<u64>, total: &mut Coverage) -> usize {
     mismatches
 }
 
-/// Claim cases; a broken one ends its chunk, and the first few are printed.
+/// Claim cases; one that fails ends its chunk, and the first few are printed.
 fn claims(seed: u64, cases: u64) -> (Tally, usize) {
     let answers = parallel::in_order(0..cases, CHUNK, |mut numbers| {
         let mut tally = Tally::default();
-        let broken = numbers.find_map(|k| claim::try_case(&checker::ENGINE, seed, k, &mut tally));
-        (tally, broken)
+        let mut failure = |k| claim::try_case(&checker::ENGINE, seed, k, &mut tally).err();
+        let failed = numbers.find_map(&mut failure);
+        (tally, failed)
     });
     let mut total = Tally::default();
     let mut failures = 0;
-    for (tally, broken) in answers {
+    for (tally, failed) in answers {
         total.add(&tally);
-        if let Some(broken) = broken {
+        if let Some(failure) = failed {
             if failures < PRINTED {
-                println!("{broken}");
+                println!("{failure}");
             }
             failures += 1;
         }
@@ -92,42 +95,84 @@ fn single(failure: Option<String>) -> ExitCode {
     ExitCode::from(u8::from(failure.is_some()))
 }
 
-fn all(options: &Options) -> ExitCode {
-    let plan = Plan::new(options.seed);
-    let cases = plan.counted() + options.cases;
+/// The counted and the drawn cases; how many mismatched, and how much was never met.
+fn compared(plan: &Plan, cases: u64, coverage: &mut Coverage) -> (usize, usize) {
     println!("Comparison: calls by kind of case, taken or refused by number\n");
-    let mut coverage = Coverage::default();
-    let mut mismatches = comparison(&plan, 0..plan.counted(), &mut coverage);
+    let mut mismatches = comparison(plan, 0..plan.counted(), coverage);
     // Programs among the drawn ones never end on an engine that is wrong about budgets.
     if mismatches == 0 {
-        mismatches = comparison(&plan, plan.counted()..cases, &mut coverage);
+        mismatches = comparison(plan, plan.counted()..cases, coverage);
     }
     println!("{}", coverage.table());
     let missing = coverage.missing();
-    for what in &missing {
-        println!("never met: {what}");
-    }
+    missing.iter().for_each(|what| println!("never met: {what}"));
+    (mismatches, missing.len())
+}
+
+/// The claim cases, and how many failed.
+fn claimed(options: &Options) -> (Tally, usize) {
     println!("Demand 3 beside the bare machine\n");
-    let (tally, broken) = claims(options.seed, options.cases / 2);
+    let (tally, failures) = claims(options.seed, options.cases / 2);
     println!("{}", tally.table());
+    if tally.is_empty() {
+        println!("the claim is empty: too little was tried");
+    }
+    (tally, failures)
+}
+
+/// All planted faults, and how many clauses of the claim none of them breaks.
+fn bitten(plan: &Plan, cases: u64) -> (Vec<Bite>, usize) {
+    let bites = teeth::bites(plan, cases, None);
+    println!("Clauses of demand 3, and how many planted faults break each before any other\n");
+    println!("{}", teeth::clause_table(&bites));
+    let unbroken = teeth::unbroken(&bites);
+    unbroken.iter().for_each(|clause| println!("never broken: {}", clause.name()));
     println!("Planted faults: cases until found, and claim cases until demand 3 breaks\n");
-    // A checker that differs from the interpreter says nothing about the faults.
-    let bites = if mismatches == 0 { teeth::bites(&plan, cases, None) } else { Vec::new() };
     println!("{}", teeth::table(&bites));
+    (bites, unbroken.len())
+}
+
+fn all(options: &Options) -> ExitCode {
+    let plan = Plan::new(options.seed);
+    let cases = plan.counted() + options.cases;
+    let mut coverage = Coverage::default();
+    let (mismatches, missing) = compared(&plan, cases, &mut coverage);
+    let (tally, failures) = claimed(options);
+    if mismatches > 0 {
+        println!("faults not tried: a checker that mismatches says nothing about them\n");
+    }
+    let (bites, unbroken) =
+        if mismatches == 0 { bitten(&plan, cases) } else { (Vec::new(), CLAUSES.len()) };
     let found = bites.iter().filter(|bite| bite.is_found()).count();
-    let breaking = bites.iter().filter(|bite| bite.breaks_claim()).count();
     println!(
-        "compare: {} cases, {mismatches} mismatches, {} steps, {} never met; \
-         {} claim programs, {broken} broken; {found} of {} faults found, {breaking} break the claim",
+        "compare: {} cases, {mismatches} mismatches, {} steps, {missing} never met; \
+         {} claim programs, {failures} failed; {found} of {} faults found, \
+         {} break the claim, {} of {} clauses broken",
         coverage.cases(),
         coverage.steps(),
-        missing.len(),
         tally.programs,
-        bites.len()
+        bites.len(),
+        teeth::breaking_any(&bites),
+        CLAUSES.len() - unbroken,
+        CLAUSES.len()
     );
-    let whole = mismatches == 0 && missing.is_empty() && found == bites.len();
-    let claimed = broken == 0 && !tally.is_empty() && breaking > 0;
-    ExitCode::from(u8::from(!(whole && claimed)))
+    let whole = mismatches == 0 && missing == 0 && coverage.cases() == cases;
+    let claim = failures == 0 && !tally.is_empty() && tally.programs == options.cases / 2;
+    let teeth = found == bites.len() && unbroken == 0;
+    ExitCode::from(u8::from(!(whole && claim && teeth)))
+}
+
+/// One case of the plan, which has no case past the last drawn one.
+fn one_case(options: &Options, number: u64) -> ExitCode {
+    let plan = Plan::new(options.seed);
+    let cases = plan.counted() + options.cases;
+    if number >= cases {
+        eprintln!("compare: no case {number}, the last is {}", cases - 1);
+        return ExitCode::from(2);
+    }
+    let engines = [&checker::ENGINE, &interpreter::ENGINE];
+    let found = compare(engines, &plan, number, &mut Coverage::default());
+    single(found.map(|mismatch| mismatch.to_string()))
 }
 
 fn main() -> ExitCode {
@@ -137,15 +182,12 @@ fn main() -> ExitCode {
     };
     guard::keep_guarded_panics_quiet();
     if let Some(number) = options.case {
-        let engines = [&checker::ENGINE, &interpreter::ENGINE];
-        let plan = Plan::new(options.seed);
-        let found = compare(engines, &plan, number, &mut Coverage::default());
-        return single(found.map(|mismatch| mismatch.to_string()));
+        return one_case(&options, number);
     }
     if let Some(number) = options.claim {
         let tally = &mut Tally::default();
-        let broken = claim::try_case(&checker::ENGINE, options.seed, number, tally);
-        return single(broken.map(|broken| broken.to_string()));
+        let answer = claim::try_case(&checker::ENGINE, options.seed, number, tally);
+        return single(answer.err().map(|failure| failure.to_string()));
     }
     if let Some(name) = &options.fault {
         let plan = Plan::new(options.seed);

@@ -3,7 +3,7 @@
 use super::{begun, small_image, three_rows, Choices, M};
 use crate::cases::{self, Budget, Call, Case};
 use crate::edges;
-use crate::images::{op, Image, Operand, Row, MOST_MEMORY};
+use crate::images::{op, Image, Operand, Row, MOST_MEMORY, MOST_ROWS};
 use crate::prng::Prng;
 use crate::programs::{ACCESSES, ARITHMETIC, RANGES};
 use crate::types::State;
@@ -11,8 +11,12 @@ use crate::types::State;
 /// One step from a state with these registers and V words; the others hold anything.
 fn one_step(prng: &mut Prng, rows: Vec<Row>, known: &[(u8, u32, u32)]) -> Case {
     let image = small_image(prng, rows);
-    let mut desk = cases::desk(prng, image.bytes(), M);
-    desk.state = State { regs: cases::registers(prng, M), ..State::default() };
+    one_step_of(prng, &image, known)
+}
+
+fn one_step_of(prng: &mut Prng, image: &Image, known: &[(u8, u32, u32)]) -> Case {
+    let mut desk = cases::desk(prng, image.bytes(), image.m);
+    desk.state = State { regs: cases::registers(prng, image.m), ..State::default() };
     desk.state.vregs = std::array::from_fn(|_| edges::shadow(prng));
     for &(register, data, shadow) in known {
         desk.state.regs[usize::from(register)] = data;
@@ -38,14 +42,16 @@ pub fn arithmetic(choices: &mut Choices, prng: &mut Prng) -> Case {
 }
 
 pub fn access(choices: &mut Choices, prng: &mut Prng) -> Case {
+    let m = choices.pick(&[M, MOST_MEMORY]);
     let op = choices.pick(&ACCESSES);
-    let address = choices.pick(&edges::addresses(M));
+    let address = choices.pick(&[&edges::addresses(m)[..], &[255, 256]].concat());
     let base = choices.pick(&[0, address, 0xFFFF_FFFE]);
     let v = choices.pick(&[0, 1, 0x8000_0000, 0xFFFF_FFFF]);
     let d = choices.pick(&[1, 2]);
     let closed = choices.pick(&[0u32, 0b1111, 0b0001, 0b1000, 0b0110]);
     let row = Row::access(op, d, 1, address.wrapping_sub(base));
-    let mut case = one_step(prng, vec![row], &[(1, base, v)]);
+    let image = Image { m, ..small_image(prng, vec![row]) };
+    let mut case = one_step_of(prng, &image, &[(1, base, v)]);
     for k in 0..4 {
         let at = address as usize + k;
         if let Some(mark) = case.desk.a.get_mut(at) {
@@ -56,16 +62,16 @@ pub fn access(choices: &mut Choices, prng: &mut Prng) -> Case {
 }
 
 pub fn jump(choices: &mut Choices, prng: &mut Prng) -> Case {
-    const N: usize = 4;
-    let from = choices.below(N);
-    // A row that jumps to itself comes last: an engine that forgets the budget differs before.
-    let to = ((from + 1 + choices.below(N + 1)) % (N + 1)) as u32;
+    let n = choices.pick(&[4, MOST_ROWS]);
+    let places = [0, n / 2 - 1, n / 2, n - 2, n - 1, n];
+    let from = choices.pick(&places[..places.len() - 1]);
+    let to = choices.pick(&places);
     let x = choices.pick(&[0, 1, 0x100, 0x8000_0000]);
     let v = choices.pick(&[0, 1, 0x8000_0000, 0xFFFF_FFFF]);
-    let mut rows = vec![Row::copy(2, Operand::Literal(7)); N];
-    rows[from] = Row::jump(1, to);
+    let mut rows = vec![Row::copy(2, Operand::Literal(7)); n as usize];
+    rows[from as usize] = Row::jump(1, to);
     let mut case = one_step(prng, rows, &[(1, x, v)]);
-    case.desk.state.index = from as u32;
+    case.desk.state.index = from;
     case
 }
 

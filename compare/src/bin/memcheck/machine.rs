@@ -2,7 +2,7 @@
 
 use std::ops::Range;
 
-use compare::checker::ENGINE;
+pub use compare::checker::ENGINE;
 use compare::images::{op, Image, Row};
 use compare::types::{Buffers, Lists, State};
 

@@ -14,9 +14,8 @@ mod tables;
 use std::fs;
 use std::process::ExitCode;
 
-use compare::checker::ENGINE;
-
 use crate::comparison::Comparison;
+use crate::machine::ENGINE;
 use crate::modes::{named, MODES, REQUESTS};
 
 /// Takes the arguments: `no=FILE auto=FILE yes=FILE plain=FILE strict=FILE`, the lines of each
