@@ -9,7 +9,8 @@ use Rattle.checker.specs.declared.Began.{Began}
 use Rattle.checker.specs.declared.Ran.{Ran}
 use Rattle.checker.specs.Views.{dataWords}
 use Rattle.checker.specs.Promises.{BeginPromise, RunPromise}
-use Rattle.capi.specs.Words.{Holds, worldIn, beganIn, ranIn}
+use Rattle.capi.specs.Words.{worldIn, beganIn, ranIn}
+use Rattle.capi.specs.Pieces.{Holds}
 
 pub begun-words : (image words regs mem memV memA mem′ memV′ memA′ : List ℕ) (given : List Data) (r : Began) → dataWords given ≡ regs
     → BeginPromise image given mem memV memA r mem′ memV′ memA′ → Holds words (r .state)

@@ -1,7 +1,6 @@
 -- How the words of a lent buffer are read as the machine's state: 16 registers, their 16 V words, then the index and the counts of steps,
 -- outputs and reports; and where the code of an image lies.
 use Prim.Native.Nat.{ℕ, _*_}
-use mathlib.Core.Path.{_≡_}
 use mathlib.Core.Bool.{cond}
 use mathlib.Core.List.{List, [], _∷_}
 use lib.ListN.{getD}
@@ -11,8 +10,6 @@ use Rattle.image.specs.Refusals.{refused}
 use Rattle.image.specs.declared.Header.{Header}
 use Rattle.machine.specs.Machine.{Parts, parts, Counts, World}
 use Rattle.machine.specs.Calls.{Began, Ran}
-use Rattle.checker.specs.declared.State.{State}
-use Rattle.checker.specs.Views.{dataWords, shadowWords, countsOf}
 
 abbrev pub stateSize : ℕ
 stateSize = 36
@@ -31,12 +28,6 @@ partsIn state = parts (regsIn state) (regsVIn state)
 
 abbrev pub worldIn : (state mem memV memA reports outputs : List ℕ) → World
 worldIn state mem memV memA reports outputs = record { parts = partsIn state mem memV memA; counts = countsIn state; reportList = reports; outputList = outputs }
-
--- the words are those of a state of the code
-pub record Holds (words : List ℕ) (s : State) : Type 0 where
-  pub regs : regsIn words ≡ dataWords (s .regs)
-  pub regsV : regsVIn words ≡ shadowWords (s .shadows)
-  pub counts : countsIn words ≡ countsOf (s .counts)
 
 -- what a call answers: the number that it returns, and what it leaves in the buffers
 abbrev pub headerIn : (number fault : ℕ) (header : List ℕ) → Header

@@ -12,7 +12,8 @@ ghost use Prim.Native.Nat.{_+_, _≤_};
 ghost use lib.ListN.{getD};
 ghost use Rattle.image.specs.Format.{registers as registerCount, partOf};
 ghost use Rattle.machine.specs.Ranges.{written};
-ghost use Rattle.capi.specs.Words.{stateSize, Holds, codeStart};
+ghost use Rattle.capi.specs.Words.{stateSize, codeStart};
+ghost use Rattle.capi.specs.Pieces.{Holds};
 ghost use Rattle.capi.specs.Promises.{ReadPromise, BeginPromise, RunPromise};
 
 // The words of a state: 16 registers, their 16 V words, and the four counts.

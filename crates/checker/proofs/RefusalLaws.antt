@@ -9,6 +9,7 @@ use Rattle.image.specs.Format.{fieldM, fieldN, fieldR, fieldD}
 use Rattle.image.specs.Refusals.{accepted, unless, refusalOf, headerOf}
 use Rattle.image.specs.declared.Refusal.{Refusal}
 use Rattle.image.specs.declared.Header.{Header}
+use Rattle.image.proofs.AcceptedImage.{header-refusal}
 use Rattle.machine.specs.Machine.{World}
 use Rattle.machine.specs.Lists.{outputPlaces}
 use Rattle.machine.specs.Calls.{wrongSize, tooManySteps, wrongMark, wrongCount, mostSteps, buffersOk, sizesOk, marksOk, countsOk, beginRefusal, runRefusal}
@@ -19,14 +20,6 @@ pub three : (a b c : Bool) {a′ b′ c′ : Bool} → a ≡ a′ → b ≡ b′
 three a b c ea eb ec = cc (and-assoc a b c)
 
 -- ---- the header
-header-refusal : (s : List ℕ) → headerOf s .refusal ≡ refusalOf s
-unfolding headerOf
-header-refusal s = go (eqb (refusalOf s .number) 0) refl
-  where
-    go : (t : Bool) → eqb (refusalOf s .number) 0 ≡ t → headerOf s .refusal ≡ refusalOf s
-    go true e = rw e
-    go false e = rw e
-
 header-passed : (s : List ℕ) → refusalOf s .number ≡ 0 → headerOf s ≡ record { m = fieldM s; n = fieldN s; r = fieldR s; d = fieldD s; refusal = refusalOf s }
 unfolding headerOf
 header-passed s h = rw h

@@ -151,15 +151,30 @@ pub accepted-code : (s : List ℕ) → Accepted s → codeOf s ≡ codePart s (f
 unfolding codeOf
 accepted-code s a = rw (accepted-header s a)
 
--- M of a header is never more than the most: it is 0 where the image is refused
-pub header-memory : (s : List ℕ) → headerOf s .m ≤ mostM
+-- ---- any header
+-- it has the image's four numbers, or zeros where the image is refused: what is so of both is so of it
+pub header-either : (s : List ℕ) (P : Header → Type 0)
+    → (refusalOf s .number ≡ 0 → P (record { m = fieldM s; n = fieldN s; r = fieldR s; d = fieldD s; refusal = refusalOf s }))
+    → (eqb (refusalOf s .number) 0 ≡ false → P (record { m = 0; n = 0; r = 0; d = 0; refusal = refusalOf s }))
+    → P (headerOf s)
 unfolding headerOf
-header-memory s = go (eqb (refusalOf s .number) 0) refl
+header-either s P numbers zeros = go (eqb (refusalOf s .number) 0) refl
   where
     go : (t : Bool) → eqb (refusalOf s .number) 0 ≡ t
-        → cond {A = Header} t (record { m = fieldM s; n = fieldN s; r = fieldR s; d = fieldD s; refusal = refusalOf s }) (record { m = 0; n = 0; r = 0; d = 0; refusal = refusalOf s }) .m ≤ mostM
-    go true e = accepted-image s (eqb-true _ _ e) .limits .memory
-    go false e = omega arith
+        → P (cond {A = Header} t (record { m = fieldM s; n = fieldN s; r = fieldR s; d = fieldD s; refusal = refusalOf s }) (record { m = 0; n = 0; r = 0; d = 0; refusal = refusalOf s }))
+    go true e = numbers (eqb-true _ _ e)
+    go false e = zeros e
+
+pub header-refusal : (s : List ℕ) → headerOf s .refusal ≡ refusalOf s
+header-refusal s = header-either s (λ (h : Header). h .refusal ≡ refusalOf s) (λ e. refl) (λ e. refl)
+
+-- M is never more than the most
+pub header-memory : (s : List ℕ) → headerOf s .m ≤ mostM
+header-memory s = header-either s (λ (h : Header). h .m ≤ mostM) (λ e. accepted-image s e .limits .memory) (λ e. omega arith)
+
+-- a refused image has no instructions
+pub header-empty : (s : List ℕ) → eqb (headerOf s .refusal .number) 0 ≡ false → headerOf s .n ≡ 0
+header-empty s = header-either s (λ (h : Header). eqb (h .refusal .number) 0 ≡ false → h .n ≡ 0) (λ e h. apart (sym (eq-eqb _ _ e) ∙ h)) (λ e h. refl)
 
 -- ---- its size, and that of its parts
 pub accepted-small : (s : List ℕ) → Accepted s → length s ≤ largest
