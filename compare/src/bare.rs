@@ -10,7 +10,7 @@ pub const TRAPPED: u32 = 6;
 pub struct Bare {
     pub regs: [u32; 16],
     pub mem: Vec<u8>,
-    pub open: Vec<bool>,
+    pub addressable: Vec<bool>,
     pub index: u32,
     pub steps: u32,
     pub outputs: Vec<(u32, u32)>,
@@ -27,7 +27,7 @@ impl Bare {
         let mut bare = Bare {
             regs: *regs,
             mem: mem.to_vec(),
-            open: vec![false; mem.len()],
+            addressable: vec![false; mem.len()],
             index: 0,
             steps: 0,
             outputs: Vec::with_capacity(MOST_OUTPUTS),
@@ -36,7 +36,7 @@ impl Bare {
         for entry in image[regions..data].chunks_exact(12) {
             let (start, length, kind) = (number(entry, 0), number(entry, 4), number(entry, 8));
             let end = start + length;
-            bare.open[start..end].fill(true);
+            bare.addressable[start..end].fill(true);
             if kind == 1 {
                 bare.mem[start..end].copy_from_slice(&image[data..data + length]);
                 data += length;
@@ -108,7 +108,7 @@ impl Bare {
             _ => {
                 let start = (imm & 0xFFFF) as usize;
                 let length = (imm >> 16) as usize;
-                self.open[start..start + length].fill(op == 19);
+                self.addressable[start..start + length].fill(op == 19);
             }
         }
         self.index = next;
@@ -116,14 +116,14 @@ impl Bare {
         true
     }
 
-    /// Where an access begins, if every byte of it is within memory and open.
+    /// Where an access begins, if every byte of it is within memory and addressable.
     fn access(&self, address: u32, size: u64) -> Option<usize> {
         let first = u64::from(address);
         if first + size > self.mem.len() as u64 {
             return None;
         }
         let at = address as usize;
-        let every = self.open[at..at + size as usize].iter().all(|&open| open);
+        let every = self.addressable[at..at + size as usize].iter().all(|&addressable| addressable);
         every.then_some(at)
     }
 }

@@ -235,15 +235,15 @@ impl Pair<'_> {
     fn memory(&self) -> Result<u32, Broken> {
         let desk = &self.desk;
         let mut unlike = 0;
-        for (k, &open) in self.bare.open.iter().enumerate() {
-            let of = format_args!("byte {k}, open on ");
-            Clause::Mark.same(of, u32::from(desk.a[k] == 1), u32::from(open))?;
+        for (k, &addressable) in self.bare.addressable.iter().enumerate() {
+            let of = format_args!("byte {k}, addressable on ");
+            Clause::Mark.same(of, u32::from(desk.a[k] == 1), u32::from(addressable))?;
             let [ours, theirs, shadow] = [desk.mem[k], self.bare.mem[k], desk.v[k]].map(u32::from);
             let (wrong, free) = split(ours, theirs, shadow);
-            if open && wrong != 0 {
+            if addressable && wrong != 0 {
                 return Err(Clause::ByteBits.broken(format!("{wrong:#x} of byte {k}")));
             }
-            unlike |= if open { free } else { 0 };
+            unlike |= if addressable { free } else { 0 };
         }
         Ok(unlike)
     }

@@ -20,9 +20,9 @@ const ZONE: u32 = 16;
 
 /// Where the three parts of memory begin.
 struct Zones {
-    /// Always open, always defined.
+    /// Always addressable, always defined.
     firm: u32,
-    /// Always open.
+    /// Always addressable.
     loose: u32,
     /// Opened before each use.
     shut: u32,
@@ -221,7 +221,7 @@ impl Draft<'_> {
         }
     }
 
-    /// What must be reported: an undefined condition, output or address, or a closed byte.
+    /// What must be reported: an undefined condition, output or address, or an unaddressable byte.
     fn dare(&mut self) {
         let (loose, firm) = (self.loose(), self.firm());
         let (from, to) = (self.zones.firm, self.zones.loose);
@@ -244,7 +244,7 @@ impl Draft<'_> {
         }
     }
 
-    /// The third zone opened, used and perhaps closed.
+    /// The third zone opened, used and perhaps closed again.
     fn opened(&mut self) {
         let zone = self.zones.shut;
         self.rows.push(Row::range(op::OPEN, zone, ZONE));

@@ -189,7 +189,7 @@ fn buffers_fit(buffers: &Buffers, m: u32) -> bool {
     buffers.mem.len() == m && buffers.v.len() == m && buffers.a.len() == m
 }
 
-/// Memory, V and A bytes as the regions say; what no region covers is closed and undefined.
+/// Memory, V and A bytes as the regions say; what no region covers is unaddressable and undefined.
 fn set_out(image: &[u8], header: &Header, buffers: Buffers) {
     buffers.a.fill(0);
     buffers.v.fill(255);
@@ -349,8 +349,8 @@ impl Machine<'_> {
         }
     }
 
-    /// Where byte k of an access lies (not wrapped), if it is open.
-    fn open_byte(&self, address: u32, k: u32) -> Option<usize> {
+    /// Where byte k of an access lies (not wrapped), if it is addressable.
+    fn addressable_byte(&self, address: u32, k: u32) -> Option<usize> {
         let at = u64::from(address) + u64::from(k);
         if at >= self.mem.len() as u64 || self.a[at as usize] == 0 {
             return None;
@@ -362,16 +362,16 @@ impl Machine<'_> {
         self.look_at(a, 1);
         let address = self.state.regs[a].wrapping_add(imm);
         let (mut data, mut shadow) = (0, 0);
-        let mut closed = false;
+        let mut unaddressable = false;
         for k in 0..size {
-            if let Some(at) = self.open_byte(address, k) {
+            if let Some(at) = self.addressable_byte(address, k) {
                 data |= u32::from(self.mem[at]) << (8 * k);
                 shadow |= u32::from(self.v[at]) << (8 * k);
             } else {
-                closed = true;
+                unaddressable = true;
             }
         }
-        if closed {
+        if unaddressable {
             self.report(3, address);
         }
         self.set(d, data, shadow);
@@ -382,16 +382,16 @@ impl Machine<'_> {
         let address = self.state.regs[a].wrapping_add(imm);
         let data = self.state.regs[d].to_le_bytes();
         let shadow = self.state.vregs[d].to_le_bytes();
-        let mut closed = false;
+        let mut unaddressable = false;
         for k in 0..size {
-            if let Some(at) = self.open_byte(address, k) {
+            if let Some(at) = self.addressable_byte(address, k) {
                 self.mem[at] = data[k as usize];
                 self.v[at] = shadow[k as usize];
             } else {
-                closed = true;
+                unaddressable = true;
             }
         }
-        if closed {
+        if unaddressable {
             self.report(4, address);
         }
     }

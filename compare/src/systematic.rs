@@ -66,7 +66,7 @@ pub const FAMILIES: [Family; 17] = [
 
 const M: u32 = 16;
 
-/// Eight filled bytes, four undefined ones, four closed ones.
+/// Eight filled bytes, four undefined ones, four unaddressable ones.
 fn small_image(prng: &mut Prng, rows: Vec<Row>) -> Image {
     let regions = vec![
         Region { start: 0, length: 8, kind: FILLED },

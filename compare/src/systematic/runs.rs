@@ -48,14 +48,14 @@ pub fn access(choices: &mut Choices, prng: &mut Prng) -> Case {
     let base = choices.pick(&[0, address, 0xFFFF_FFFE]);
     let v = choices.pick(&[0, 1, 0x8000_0000, 0xFFFF_FFFF]);
     let d = choices.pick(&[1, 2]);
-    let closed = choices.pick(&[0u32, 0b1111, 0b0001, 0b1000, 0b0110]);
+    let unaddressable = choices.pick(&[0u32, 0b1111, 0b0001, 0b1000, 0b0110]);
     let row = Row::access(op, d, 1, address.wrapping_sub(base));
     let image = Image { m, ..small_image(prng, vec![row]) };
     let mut case = one_step_of(prng, &image, &[(1, base, v)]);
     for k in 0..4 {
         let at = address as usize + k;
         if let Some(mark) = case.desk.a.get_mut(at) {
-            *mark = u8::from(closed & (1 << k) == 0);
+            *mark = u8::from(unaddressable & (1 << k) == 0);
         }
     }
     case

@@ -3,7 +3,7 @@
 use crate::kit::*;
 
 #[test]
-fn closed_load_is_nought_and_defined() {
+fn unaddressable_load_is_nought_and_defined() {
     let mut kit = Kit::new(image(8, &[(14, 1, 15, 0, 0), (13, 2, 15, 0, 8)], &[], &[]), [0; 16]);
     assert_eq!(kit.run(2), 2);
     assert_eq!((kit.state.regs[1], kit.state.vregs[1]), (0, 0));
@@ -25,8 +25,8 @@ fn load_of_undefined_bits_is_no_error() {
 }
 
 #[test]
-fn partly_closed_load_and_store() {
-    // bytes 1 and 3 of the access are closed
+fn partly_unaddressable_load_and_store() {
+    // bytes 1 and 3 of the access are unaddressable
     let regions = [[0, 1, 1], [2, 1, 2]];
     let code = [(14, 1, 15, 0, 0), (16, 2, 15, 0, 0)];
     let mut kit = Kit::new(image(4, &code, &regions, &[0x11]), [0; 16]);

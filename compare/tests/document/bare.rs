@@ -84,8 +84,8 @@ fn bare_machine_agrees_while_nothing_is_reported() {
                 assert_eq!((bare.regs[r] ^ kit.state.regs[r]) & !kit.state.vregs[r], 0);
             }
             for k in 0..16 {
-                assert_eq!(bare.open[k], kit.a[k] == 1);
-                assert!(!bare.open[k] || (bare.mem[k] ^ kit.mem[k]) & !kit.v[k] == 0);
+                assert_eq!(bare.addressable[k], kit.a[k] == 1);
+                assert!(!bare.addressable[k] || (bare.mem[k] ^ kit.mem[k]) & !kit.v[k] == 0);
             }
             let made: Vec<(u32, u32)> =
                 kit.outputs.chunks(2).map(|o| (o[0], o[1])).take(bare.outputs.len()).collect();
