@@ -1,9 +1,9 @@
 -- The refusals of the calls, from the header that the reader handed back.
 use Prim.Native.Nat.{ℕ, _+_}
-use mathlib.Core.Path.{_≡_, refl, sym, ap, _∙_}
-use mathlib.Core.Bool.{Bool, true, false, _&&_, and-assoc}
+use mathlib.Core.Path.{_≡_, sym, ap, _∙_}
+use mathlib.Core.Bool.{Bool, _&&_, and-assoc}
 use mathlib.Core.List.{List}
-use lib.Dec.{eqb, leb}
+use lib.Dec.{leb}
 use borrow.Author.Tests.{ne-eqb}
 use Rattle.image.specs.Format.{fieldM, fieldN, fieldR, fieldD}
 use Rattle.image.specs.Refusals.{accepted, unless, refusalOf, headerOf}
