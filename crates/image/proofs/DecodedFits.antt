@@ -63,7 +63,7 @@ AnswerFits n m (Fault k) = Unit
 pub decoded-fits : (code : List ℕ) (i n m : ℕ) (v : Instruction) → Bytes code → decodeAt code i n m ≡ Valid v → Fits n m v
 decoded-fits code i n m v b h =
     let f = fieldsAt code i in
-    subst (AnswerFits n m) h (of-answer (AnswerFits n m) n m code i (built-fits (rowOf (f .op)) (f .d) (f .a) (f .b) (f .imm) n m (word-lt code (2 * i + 1) b)) tt)
+    subst (AnswerFits n m) h (of-answer (AnswerFits n m) n m code i (λ there. built-fits (rowOf (f .op)) (f .d) (f .a) (f .b) (f .imm) n m (word-lt code (2 * i + 1) b)) tt)
 
 abbrev PlacedAt : ℕ → Decoded → Type 0
 PlacedAt i (Valid v) = Unit
@@ -71,7 +71,7 @@ PlacedAt i (Fault k) = k ≡ i
 
 -- the place of a fault is the index
 pub fault-place : (code : List ℕ) (i n m k : ℕ) → decodeAt code i n m ≡ Fault k → k ≡ i
-fault-place code i n m k h = subst (PlacedAt i) h (of-answer (PlacedAt i) n m code i (λ kept. tt) refl)
+fault-place code i n m k h = subst (PlacedAt i) h (of-answer (PlacedAt i) n m code i (λ there kept. tt) refl)
 
 -- each index below N of an accepted image decodes, to an instruction whose fields fit
 pub decodes : (s : List ℕ) → Bytes s → Accepted s → (i : ℕ) → i < fieldN s

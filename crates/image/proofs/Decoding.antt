@@ -33,10 +33,10 @@ module _ (P : Decoded → Type 0) (n m : ℕ) where
       go true e = kept e
       go false e = fault
 
-  pub of-answer : (code : List ℕ) (i : ℕ) → Kept (fieldsAt code i) → P (Fault i) → P (decodeAt code i n m)
+  pub of-answer : (code : List ℕ) (i : ℕ) → (i < length code / instructionSize → Kept (fieldsAt code i)) → P (Fault i) → P (decodeAt code i n m)
   unfolding decodeAt
-  of-answer code i kept fault = go (ltb i (length code / instructionSize))
+  of-answer code i kept fault = go (ltb i (length code / instructionSize)) refl
     where
-      go : (t : Bool) → P (cond t (decodedFrom (fieldsAt code i) i n m) (Fault i))
-      go true = of-fields (fieldsAt code i) i kept fault
-      go false = fault
+      go : (t : Bool) → ltb i (length code / instructionSize) ≡ t → P (cond t (decodedFrom (fieldsAt code i) i n m) (Fault i))
+      go true e = of-fields (fieldsAt code i) i (kept (ltb-true _ _ e)) fault
+      go false e = fault

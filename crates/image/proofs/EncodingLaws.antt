@@ -10,9 +10,10 @@ use lib.ListN.{length, List·getD-eq-default}
 use borrow.Author.Tests.{eqb-true, lt-ltb, le-leb, ne-eqb}
 use Rattle.rules.specs.declared.Operation.{Operation}
 use Rattle.rules.specs.declared.Operation.the-variants.{Add, Sub, Mul, And, Or, Xor, Shl, Shr, Sar, Eq, Ltu}
+use Rattle.image.specs.Words.{Bytes}
 use Rattle.image.specs.Format.{instructionSize, registers, ports}
 use Rattle.image.specs.Rows.{rows, rowOf, literalMark, isRegister, operandOk, rangeStart, rangeLength, rangeOk, fieldsOk, operandOf, built, decoded, Fields, fieldsAt, decodedFrom, decodeAt}
-use Rattle.image.specs.Encoding.{fields, opOf, loadOp, storeOp, markOp, operandB, operandImm, encoded}
+use Rattle.image.specs.Encoding.{fields, opOf, loadOp, storeOp, markOp, operandB, operandImm, encoded, StartFits, StandsAt, ReadsAs}
 use Rattle.image.specs.Accepted.{OperandFits, Fits}
 use Rattle.image.specs.declared.Operand.{Operand}
 use Rattle.image.specs.declared.Operand.the-variants.{Register, Literal}
@@ -27,6 +28,7 @@ use Rattle.image.specs.declared.Decoded.the-variants.{Valid, Fault}
 use Rattle.image.proofs.Tests.{apart, both, all-four, every-below}
 use Rattle.rules.proofs.Bits.{lt-or-ge}
 use Rattle.image.proofs.Decoding.{access-holds, of-answer}
+use Rattle.image.proofs.DecodedFits.{decoded-fits, fault-place}
 
 -- ---- from the fields to the instruction and back
 -- the op of the instruction that a row makes
@@ -91,7 +93,7 @@ decoded-encoding code i n m v h =
     let f = fieldsAt code i in
     subst (Stands f) h
     (of-answer (Stands f) n m code i
-    (λ k. built-back (rowOf (f .op)) (f .d) (f .a) (f .b) (f .imm) n m k ∙ ap (λ (op : ℕ). fields op (f .d) (f .a) (f .b) (f .imm)) (row-number (f .op) (has-row (f .op) (f .d) (f .a) (f .b) (f .imm) n m k)))
+    (λ l k. built-back (rowOf (f .op)) (f .d) (f .a) (f .b) (f .imm) n m k ∙ ap (λ (op : ℕ). fields op (f .d) (f .a) (f .b) (f .imm)) (row-number (f .op) (has-row (f .op) (f .d) (f .a) (f .b) (f .imm) n m k)))
     tt)
 
 -- ---- what stands there and fits is decoded
@@ -128,11 +130,10 @@ operand-there : (b : Operand) → OperandFits b → (operandOk (operandB b) (ope
 operand-there (Register r) h = rw (ne-eqb r literalMark (λ e. omega arith), lt-ltb r registers h) (refl, refl)
 operand-there (Literal x) h = (refl, refl)
 
-range-there : (start size m : ℕ) → m < 2 ^ 16 → 1 ≤ size → start + size ≤ m
-    → (rangeStart (start + 2 ^ 16 * size) ≡ start) × (rangeLength (start + 2 ^ 16 * size) ≡ size)
-range-there start size m l s e = (omega arith, omega arith)
+range-there : (start size : ℕ) → start < 2 ^ 16 → (rangeStart (start + 2 ^ 16 * size) ≡ start) × (rangeLength (start + 2 ^ 16 * size) ≡ size)
+range-there start size l = (omega arith, omega arith)
 
-there : (v : Instruction) (i n m : ℕ) → m < 2 ^ 16 → Fits n m v → decodedFrom (encoded v) i n m ≡ Valid v
+there : (v : Instruction) (i n m : ℕ) → StartFits v → Fits n m v → decodedFrom (encoded v) i n m ≡ Valid v
 unfolding decoded rowOf fieldsOk built encoded
 there Stop i n m l h = refl
 there (Move d b) i n m l h =
@@ -146,10 +147,53 @@ there (Store width d a imm) i n m l h = rw (row-of-store width, lt-ltb d registe
 there (Jump a target) i n m l h = rw (lt-ltb a registers (h .0), lt-ltb target n (h .1))
 there (Emit a port) i n m l h = rw (lt-ltb a registers (h .0), lt-ltb port ports (h .1))
 there (Mark addressable start size) i n m l h =
-    let r = range-there start size m l (h .0) (h .1) in
+    let r = range-there start size l in
     rw (row-of-mark addressable, r .0, r .1, le-leb 1 size (h .0), le-leb (start + size) m (h .1))
 
-pub encoding-decodes : (code : List ℕ) (i n m : ℕ) (v : Instruction) → m < 2 ^ 16 → Fits n m v
-    → i < length code / instructionSize → fieldsAt code i ≡ encoded v → decodeAt code i n m ≡ Valid v
+pub encoding-decodes : (code : List ℕ) (i n m : ℕ) (v : Instruction) → StandsAt code i n m v → decodeAt code i n m ≡ Valid v
 unfolding decodeAt
-encoding-decodes code i n m v l h k e = rw (lt-ltb i (length code / instructionSize) k) (ap (λ (f : Fields). decodedFrom f i n m) e ∙ there v i n m l h)
+encoding-decodes code i n m v s = rw (lt-ltb i (length code / instructionSize) (s .there)) (ap (λ (f : Fields). decodedFrom f i n m) (s .same) ∙ there v i n m (s .start) (s .fits))
+
+-- ---- the promise of `decode` by the fields follows from its equation, and the equation from it
+start-fits : (row : Row) (d a b imm : ℕ) → StartFits (built row d a b imm)
+unfolding built
+start-fits Stops d a b imm = tt
+start-fits Moves d a b imm = tt
+start-fits (Computes op) d a b imm = tt
+start-fits (Loads width) d a b imm = tt
+start-fits (Stores width) d a b imm = tt
+start-fits Jumps d a b imm = tt
+start-fits Emits d a b imm = tt
+start-fits (Marks addressable) d a b imm = omega arith
+start-fits Missing d a b imm = tt
+
+-- its eight bytes are there, and a start is in imm's low half
+abbrev Within : List ℕ → ℕ → Decoded → Type 0
+Within code i (Valid v) = (i < length code / instructionSize) × StartFits v
+Within code i (Fault k) = Unit
+
+decoded-within : (code : List ℕ) (i n m : ℕ) (v : Instruction) → decodeAt code i n m ≡ Valid v → (i < length code / instructionSize) × StartFits v
+decoded-within code i n m v h =
+    let f = fieldsAt code i in
+    subst (Within code i) h (of-answer (Within code i) n m code i (λ l k. (l, start-fits (rowOf (f .op)) (f .d) (f .a) (f .b) (f .imm))) tt)
+
+module _ (code : List ℕ) (i n m : ℕ) (b : Bytes code) where
+  pub decoded-reads : (r : Decoded) → r ≡ decodeAt code i n m → ReadsAs code i n m r
+  unfolding ReadsAs
+  decoded-reads (Valid v) e =
+      let w = decoded-within code i n m v (sym e) in
+      record { there = w .0; same = sym (decoded-encoding code i n m v (sym e)); fits = decoded-fits code i n m v b (sym e); start = w .1 }
+  decoded-reads (Fault k) e = (fault-place code i n m k (sym e), λ v s. never (encoding-decodes code i n m v s) e)
+    where
+      never : {v : Instruction} → decodeAt code i n m ≡ Valid v → Fault k ≡ decodeAt code i n m → ⊥
+      never p q = let z : _≡_ {A = ℕ} 0 1 = cc in omega arith
+
+  -- no other answer keeps it
+  pub reads-decoded : (r : Decoded) → ReadsAs code i n m r → r ≡ decodeAt code i n m
+  unfolding ReadsAs
+  reads-decoded (Valid v) s = sym (encoding-decodes code i n m v s)
+  reads-decoded (Fault k) s = go (decodeAt code i n m) refl
+    where
+      go : (t : Decoded) → decodeAt code i n m ≡ t → Fault k ≡ t
+      go (Valid v) h = absurd (s .1 v (decoded-reads (Valid v) (sym h)))
+      go (Fault j) h = ap Fault (s .0 ∙ sym (fault-place code i n m j h))

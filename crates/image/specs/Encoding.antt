@@ -1,16 +1,24 @@
--- The number and the fields that document 01's table gives for each case of the decoded instruction. `decoded-encoding` and
--- `encoding-decodes` in proofs/EncodingLaws.antt say that an instruction is decoded where these fields stand and fit, and nowhere else.
-use Prim.Native.Nat.{ℕ, _+_, _*_, _^_}
+-- The number and the fields that document 01's table gives for each case of the decoded instruction, and what a decoded answer says by
+-- them. `decode` promises this beside its equation with `decodeAt`; `decoded-reads` and `reads-decoded` in proofs/EncodingLaws.antt say that
+-- each of the two follows from the other.
+use Prim.Native.Nat.{ℕ, _+_, _*_, _/_, _^_, _<_}
+use mathlib.Core.Path.{_≡_}
 use mathlib.Core.Bool.{Bool, true, false}
+use mathlib.Core.List.{List}
+use lib.ListN.{length}
 use Rattle.rules.specs.declared.Operation.{Operation}
 use Rattle.rules.specs.declared.Operation.the-variants.{Add, Sub, Mul, And, Or, Xor, Shl, Shr, Sar, Eq, Ltu}
-use Rattle.image.specs.Rows.{literalMark, Fields}
+use Rattle.image.specs.Format.{instructionSize}
+use Rattle.image.specs.Rows.{literalMark, Fields, fieldsAt}
+use Rattle.image.specs.Accepted.{Fits}
 use Rattle.image.specs.declared.Operand.{Operand}
 use Rattle.image.specs.declared.Operand.the-variants.{Register, Literal}
 use Rattle.image.specs.declared.Width.{Width}
 use Rattle.image.specs.declared.Width.the-variants.{Byte, Word}
 use Rattle.image.specs.declared.Instruction.{Instruction}
 use Rattle.image.specs.declared.Instruction.the-variants.{Stop, Move, Compute, Load, Store, Jump, Emit, Mark}
+use Rattle.image.specs.declared.Decoded.{Decoded}
+use Rattle.image.specs.declared.Decoded.the-variants.{Valid, Fault}
 
 abbrev pub fields : (op d a b imm : ℕ) → Fields
 fields op d a b imm = record { op = op; d = d; a = a; b = b; imm = imm }
@@ -59,3 +67,27 @@ encoded (Store width d a imm) = fields (storeOp width) d a 0 imm
 encoded (Jump a target) = fields 17 0 a 0 target
 encoded (Emit a port) = fields 18 0 a 0 port
 encoded (Mark addressable start size) = fields (markOp addressable) 0 0 0 (start + 2 ^ 16 * size)
+
+-- ---- the reading of one instruction
+-- start is imm's low 16 bits (`Fits` says so where M is below 2 ^ 16)
+abbrev pub StartFits : Instruction → Type 0
+StartFits Stop = Unit
+StartFits (Move d b) = Unit
+StartFits (Compute op d a b) = Unit
+StartFits (Load width d a imm) = Unit
+StartFits (Store width d a imm) = Unit
+StartFits (Jump a target) = Unit
+StartFits (Emit a port) = Unit
+StartFits (Mark addressable start size) = start < 2 ^ 16
+
+-- the eight bytes at index i of the code are there, they are the instruction's fields, and these are in range
+pub record StandsAt (code : List ℕ) (i n m : ℕ) (instruction : Instruction) : Type 0 where
+  pub there : i < length code / instructionSize
+  pub same : fieldsAt code i ≡ encoded instruction
+  pub fits : Fits n m instruction
+  pub start : StartFits instruction
+
+-- a decoded instruction stands at the index; the place of a fault is the index, and no instruction stands there
+unfoldable pub ReadsAs : (code : List ℕ) (i n m : ℕ) → Decoded → Type 0
+ReadsAs code i n m (Valid instruction) = StandsAt code i n m instruction
+ReadsAs code i n m (Fault k) = (k ≡ i) × ((instruction : Instruction) → StandsAt code i n m instruction → ⊥)

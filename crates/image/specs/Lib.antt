@@ -1,9 +1,9 @@
 pub mod Words
 pub mod Format
 pub mod Rows
-pub mod Encoding
 pub mod Regions
 pub mod Refusals
 pub mod Accepted
+pub mod Encoding
 pub mod Example
 pub mod Tests

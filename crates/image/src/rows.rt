@@ -11,6 +11,7 @@ use super::format::PORTS;
 use super::words;
 ghost use mathlib.Core.Path.{_≡_};
 ghost use Rattle.image.specs.Rows.{rowOf, operandOk, rangeOk, fieldsOk, operandOf, built, decoded, decodeAt};
+ghost use Rattle.image.specs.Encoding.{ReadsAs};
 
 // The row of an op, before its fields are looked at; ops above the last have none.
 enum Row {
@@ -162,6 +163,7 @@ fn decode_fields(row: Row, d: u8, a: u8, b: u8, imm: u32, index: usize, n: u32, 
 // index where there is none that keeps its row.
 pub fn decode(code: &[u8], index: usize, n: u32, m: u32) -> Decoded
     ensures { λ r. ⌜ r ≡ decodeAt (now (code .entry)) index n m ⌝ }
+    ensures { λ r. ⌜ ReadsAs (now (code .entry)) index n m r ⌝ }
 {
     if index < code.len() / INSTRUCTION {
         let at = INSTRUCTION * index;

@@ -12,5 +12,5 @@ instruction-at-spec =
     (λ c κs. search needs)
     (λ c. search needs)
     (λ c. search needs)
-    (λ c. ap instructionOf (sym (c .enum-told .given .1) ∙ c .before .before .decode .ensures))
-    (λ c. ap instructionOf (sym (c .before .i .given .1) ∙ c .before .before .before .decode .ensures)))
+    (λ c. ap instructionOf (sym (c .enum-told .given .1) ∙ c .before .before .decode .ensures .0))
+    (λ c. ap instructionOf (sym (c .before .i .given .1) ∙ c .before .before .before .decode .ensures .0)))
