@@ -8,3 +8,4 @@ pub mod DecodedFits
 pub mod EncodingLaws
 pub mod FaultIndex
 pub mod Example
+pub mod AcceptanceCases

@@ -6,4 +6,5 @@ pub mod Refusals
 pub mod Accepted
 pub mod Encoding
 pub mod Example
+pub mod AcceptanceCases
 pub mod Tests

@@ -1,0 +1,159 @@
+-- Which small images are accepted, and with which refusal the others are not, worked out by hand from document 01 (When the bench says
+-- no): each number by itself, two at once, the lowest of several indices, and the edges. proofs/AcceptanceCases.antt says that the
+-- definitions give them.
+use Prim.Native.Nat.{ℕ}
+use mathlib.Core.List.{List, [], _∷_, _++_}
+use lib.ListN.{take, set}
+use Rattle.image.specs.Refusals.{refused}
+use Rattle.image.specs.declared.Refusal.{Refusal}
+
+-- an image that is accepted: M 8; three instructions, three regions, three bytes of data; 95 bytes
+abbrev base : List ℕ
+base =
+    -- 0: the first four bytes, M, N, the code's offset
+    0x54 ∷ 0x55 ∷ 0x4E ∷ 0x31 ∷ 8 ∷ 0 ∷ 0 ∷ 0 ∷ 3 ∷ 0 ∷ 0 ∷ 0 ∷ 32 ∷ 0 ∷ 0 ∷ 0
+    -- 16: R, the regions' offset, D, the data's offset
+    ∷ 3 ∷ 0 ∷ 0 ∷ 0 ∷ 56 ∷ 0 ∷ 0 ∷ 0 ∷ 3 ∷ 0 ∷ 0 ∷ 0 ∷ 92 ∷ 0 ∷ 0 ∷ 0
+    -- 32: MOV 1,7
+    ∷ 1 ∷ 1 ∷ 0 ∷ 0xFF ∷ 7 ∷ 0 ∷ 0 ∷ 0
+    -- 40: EMIT 1,2
+    ∷ 18 ∷ 0 ∷ 1 ∷ 0 ∷ 2 ∷ 0 ∷ 0 ∷ 0
+    -- 48: STOP
+    ∷ 0 ∷ 0 ∷ 0 ∷ 0 ∷ 0 ∷ 0 ∷ 0 ∷ 0
+    -- 56: from 1 on, 2 bytes of kind 2
+    ∷ 1 ∷ 0 ∷ 0 ∷ 0 ∷ 2 ∷ 0 ∷ 0 ∷ 0 ∷ 2 ∷ 0 ∷ 0 ∷ 0
+    -- 68: from 4 on, 2 bytes filled
+    ∷ 4 ∷ 0 ∷ 0 ∷ 0 ∷ 2 ∷ 0 ∷ 0 ∷ 0 ∷ 1 ∷ 0 ∷ 0 ∷ 0
+    -- 80: from 6 on, 1 byte filled
+    ∷ 6 ∷ 0 ∷ 0 ∷ 0 ∷ 1 ∷ 0 ∷ 0 ∷ 0 ∷ 1 ∷ 0 ∷ 0 ∷ 0
+    -- 92: the data
+    ∷ 0xA1 ∷ 0xA2 ∷ 0xB1 ∷ []
+
+-- ---- a fault for each number, which no other number sees, but that an image of 31 bytes has no right length either
+-- 31 bytes
+abbrev fault1 : List ℕ → List ℕ
+fault1 s = take 31 s
+
+-- the first byte
+abbrev fault2 : List ℕ → List ℕ
+fault2 s = set s 0 0x53
+
+-- M 4,104
+abbrev fault3 : List ℕ → List ℕ
+fault3 s = set s 5 0x10
+
+-- the data's offset is 93
+abbrev fault4 : List ℕ → List ℕ
+fault4 s = set s 28 93
+
+-- instruction 1 has op 21
+abbrev fault5 : List ℕ → List ℕ
+fault5 s = set s 40 21
+
+-- region 0 has kind 3
+abbrev fault6 : List ℕ → List ℕ
+fault6 s = set s 64 3
+
+-- region 1 has 1 byte: the filled sum is 2
+abbrev fault7 : List ℕ → List ℕ
+fault7 s = set s 72 1
+
+-- ---- the cases
+pub record RefusalCase : Type 0 where
+  pub image : List ℕ
+  pub refusal : Refusal
+
+abbrev refusalCase : List ℕ → (number index : ℕ) → RefusalCase
+refusalCase image number index = record { image = image; refusal = refused number index }
+
+abbrev pub refusalCases : List RefusalCase
+refusalCases =
+    -- each by itself, and none
+    refusalCase base 0 0
+    ∷ refusalCase (fault1 base) 1 0
+    ∷ refusalCase (fault2 base) 2 0
+    ∷ refusalCase (fault3 base) 3 0
+    ∷ refusalCase (fault4 base) 4 0
+    ∷ refusalCase (fault5 base) 5 1
+    ∷ refusalCase (fault6 base) 6 0
+    ∷ refusalCase (fault7 base) 7 0
+    -- two at once: the lower number
+    ∷ refusalCase (fault1 (fault2 base)) 1 0
+    ∷ refusalCase (fault1 (fault3 base)) 1 0
+    ∷ refusalCase (fault1 (fault4 base)) 1 0
+    ∷ refusalCase (fault2 (fault3 base)) 2 0
+    ∷ refusalCase (fault2 (fault4 base)) 2 0
+    ∷ refusalCase (fault2 (fault5 base)) 2 0
+    ∷ refusalCase (fault2 (fault6 base)) 2 0
+    ∷ refusalCase (fault2 (fault7 base)) 2 0
+    ∷ refusalCase (fault3 (fault4 base)) 3 0
+    ∷ refusalCase (fault3 (fault5 base)) 3 0
+    ∷ refusalCase (fault3 (fault6 base)) 3 0
+    ∷ refusalCase (fault3 (fault7 base)) 3 0
+    ∷ refusalCase (fault4 (fault5 base)) 4 0
+    ∷ refusalCase (fault4 (fault6 base)) 4 0
+    ∷ refusalCase (fault4 (fault7 base)) 4 0
+    ∷ refusalCase (fault5 (fault6 base)) 5 1
+    ∷ refusalCase (fault5 (fault7 base)) 5 1
+    ∷ refusalCase (fault6 (fault7 base)) 6 0
+    -- 1: no byte at all; of 32 bytes only the length is wrong
+    ∷ refusalCase [] 1 0
+    ∷ refusalCase (take 32 base) 4 0
+    -- 2: each of the other three bytes
+    ∷ refusalCase (set base 1 0) 2 0
+    ∷ refusalCase (set base 2 0) 2 0
+    ∷ refusalCase (set base 3 0x32) 2 0
+    -- 3: M 0; M 4,096, which is accepted, and 4,097
+    ∷ refusalCase (set base 4 0) 3 0
+    ∷ refusalCase (set (set base 5 0x10) 4 0) 0 0
+    ∷ refusalCase (set (set base 5 0x10) 4 1) 3 0
+    -- N 0; N 512, which these offsets do not go with, and 513
+    ∷ refusalCase (set base 8 0) 3 0
+    ∷ refusalCase (set (set base 9 2) 8 0) 4 0
+    ∷ refusalCase (set (set base 9 2) 8 1) 3 0
+    -- R 32 and 33
+    ∷ refusalCase (set base 16 32) 4 0
+    ∷ refusalCase (set base 16 33) 3 0
+    -- D 4,096 and 4,097
+    ∷ refusalCase (set (set base 25 0x10) 24 0) 4 0
+    ∷ refusalCase (set (set base 25 0x10) 24 1) 3 0
+    -- no regions and no data: R 0, D 0, and the data's offset is the image's end
+    ∷ refusalCase (take 56 (set (set (set base 16 0) 24 0) 28 56)) 0 0
+    -- 4: the code's offset, also in its highest byte; the regions' offset; one byte less, one more
+    ∷ refusalCase (set base 12 33) 4 0
+    ∷ refusalCase (set base 15 1) 4 0
+    ∷ refusalCase (set base 20 57) 4 0
+    ∷ refusalCase (take 94 base) 4 0
+    ∷ refusalCase (base ++ 0 ∷ []) 4 0
+    -- 5: instruction 0 with op 21; EMIT to port 8; STOP with d 1
+    ∷ refusalCase (set base 32 21) 5 0
+    ∷ refusalCase (set base 44 8) 5 1
+    ∷ refusalCase (set base 49 1) 5 2
+    -- two and three of these: the lowest index
+    ∷ refusalCase (set (set base 44 8) 49 1) 5 1
+    ∷ refusalCase (set (set (set base 32 21) 44 8) 49 1) 5 0
+    -- JNZ 1,2, which is accepted, and JNZ 1,3: N is 3
+    ∷ refusalCase (set base 40 17) 0 0
+    ∷ refusalCase (set (set base 40 17) 44 3) 5 1
+    -- OPEN from 6 on of 2 bytes, which is accepted, and of 3: M is 8
+    ∷ refusalCase (set (set (set base 48 19) 52 6) 54 2) 0 0
+    ∷ refusalCase (set (set (set base 48 19) 52 6) 54 3) 5 2
+    -- 6: region 0 of no bytes; of kind 0
+    ∷ refusalCase (set base 60 0) 6 0
+    ∷ refusalCase (set base 64 0) 6 0
+    -- region 1 from 3 on, where region 0 ends, which is accepted, and from 2 on
+    ∷ refusalCase (set base 68 3) 0 0
+    ∷ refusalCase (set base 68 2) 6 1
+    -- region 2 up to M, which is accepted, and one further
+    ∷ refusalCase (set base 80 7) 0 0
+    ∷ refusalCase (set base 80 8) 6 2
+    -- region 2 from 4,294,967,295 on: its end does not wrap
+    ∷ refusalCase (set (set (set (set base 80 0xFF) 81 0xFF) 82 0xFF) 83 0xFF) 6 2
+    -- two and three of these: the lowest index
+    ∷ refusalCase (set (set base 68 2) 80 8) 6 1
+    ∷ refusalCase (set (set (set base 64 0) 68 2) 80 8) 6 0
+    -- 7: region 0 is filled, too; D 2 and one byte less, D 4 and one more
+    ∷ refusalCase (set base 64 1) 7 0
+    ∷ refusalCase (take 94 (set base 24 2)) 7 0
+    ∷ refusalCase (set base 24 4 ++ 0 ∷ []) 7 0
+    ∷ []
