@@ -1,6 +1,6 @@
 -- The list of instructions that a run decodes into, as a loop fills it: so far each has its meaning, and from there on there is STOP.
 use Prim.Native.Nat.{ℕ, zero, suc, _+_, _≤_, _<_}
-use mathlib.Core.Path.{_≡_, refl, ap, _∙_}
+use mathlib.Core.Path.{_≡_, refl, sym, ap, _∙_}
 use mathlib.Core.List.{List}
 use native.Mathlib.Omega.{arith}
 use borrow.Author.Count.{below-none, below-more}
@@ -10,7 +10,9 @@ use lib.Seq.{getD-set-same}
 use Rattle.image.specs.declared.Instruction.{Instruction}
 use Rattle.checker.specs.declared.flat.Flat.{Flat}
 use Rattle.checker.specs.declared.flat.Flat.the-variants.{Stop}
+use Rattle.machine.specs.Machine.{Program}
 use Rattle.checker.specs.Flat.{meaning}
+use Rattle.checker.specs.Pieces.{Decodes}
 
 -- of n places the first k have their meaning
 pub record Decoding (at : ℕ → Instruction) (n : ℕ) (l : List Flat) (k : ℕ) : Type 0 where
@@ -36,3 +38,8 @@ one-decoded {at} {n} {l} {k} f g h e =
           (ap meaning (getD-set-same l k f Stop (omega (arith, g .size))) ∙ e);
       rest = λ i q. read-above Flat l k i f Stop Stop (omega arith) (g .rest i (omega arith));
     }
+
+-- where they are all the program's, the table has what stands at every index
+pub all-decoded : (program : Program) (n count k : ℕ) (l : List Flat) → Decoding (program .at) n l k → count ≡ program .count → k ≤ count → count ≤ k → Decodes program l
+all-decoded program n count k l g e most least =
+    record { at = λ i. record { below = λ h. sym (g .holds i (omega arith)); past = λ h. g .rest i (omega arith) } }

@@ -3,6 +3,7 @@ pub mod Filling
 pub mod RangeLaws
 pub mod StepLaws
 pub mod GroupLaws
+pub mod DispatchLaws
 pub mod DecodingLaws
 pub mod RunningLaws
 pub mod RegisterLaws

@@ -2,21 +2,20 @@
 use Prim.Native.Nat.{ℕ, zero, suc, _+_, _-_, _/_, _≤_, _<_}
 use mathlib.Core.Path.{_≡_, refl, sym, ap, _∙_, subst}
 use mathlib.Core.Logic.{⊎-elim}
-use mathlib.Core.Bool.{true, false, cond}
+use mathlib.Core.Bool.{Bool, true, false, cond}
 use mathlib.Core.List.{List, [], _∷_}
 use native.Mathlib.Omega.{arith}
-use lib.ListN.{length}
+use lib.ListN.{length, getD}
 use lib.Dec.{eqb, leb}
 use borrow.Author.Tests.{lt-leb, le-leb}
 use types.Run.{OneOf, miss}
 use denote.Enum.Declared.{tagOf}
 use Rattle.image.specs.declared.Instruction.{Instruction}
-use Rattle.image.specs.declared.Instruction.the-variants.{Stop}
 use Rattle.rules.proofs.Bits.{lt-or-ge}
 use Rattle.image.specs.Format.{mostN}
 use Rattle.image.proofs.Tests.{apart}
 use Rattle.image.specs.Accepted.{Fits}
-use Rattle.machine.specs.Machine.{Parts, World, Program}
+use Rattle.machine.specs.Machine.{Parts, parts, World, Program}
 use Rattle.machine.specs.Instructions.{outputsOf}
 use Rattle.machine.specs.Steps.{reportsOf}
 use Rattle.machine.specs.Lists.{outputSize, outputPlaces}
@@ -34,14 +33,14 @@ use Rattle.checker.specs.declared.flat.Flat.the-variants as flat
 use Rattle.checker.specs.Flat.{meaning}
 use Rattle.checker.proofs.flat.Flat.{the-type}
 use Rattle.checker.specs.Views.{world}
-use Rattle.checker.specs.Pieces.{Room, Ready}
+use Rattle.checker.specs.Pieces.{FitsMemory, MayStep, Ready, Stands, Decodes, Reasons, Turned}
 
 -- ---- an instruction that a match has sorted out
 -- all but STOP and EMIT
-abbrev others : List ℕ
+abbrev pub others : List ℕ
 others = 1 ∷ 2 ∷ 3 ∷ 4 ∷ 5 ∷ 6 ∷ 7 ∷ 8 ∷ 9 ∷ 10 ∷ 11 ∷ 12 ∷ 13 ∷ 14 ∷ 15 ∷ 16 ∷ 17 ∷ 18 ∷ 19 ∷ 20 ∷ 21 ∷ 22 ∷ 23 ∷ 24 ∷ 25 ∷ 26 ∷ 27 ∷ 29 ∷ []
 
-pub goes-past : (i : Flat) → OneOf others (tagOf the-type i) → (false ≡ isStop (meaning i)) × (false ≡ isEmit (meaning i))
+goes-past : (i : Flat) → OneOf others (tagOf the-type i) → (false ≡ isStop (meaning i)) × (false ≡ isEmit (meaning i))
 unfolding isStop isEmit meaning
 goes-past flat.Stop h = absurd (miss others 0 tt h)
 goes-past (flat.MoveRegister d b) h = (refl, refl)
@@ -75,31 +74,80 @@ goes-past (flat.Emit a port) h = absurd (miss others 28 tt h)
 goes-past (flat.Mark addressable start size) h = (refl, refl)
 
 -- ---- the stop reasons, in their order
-module _ (n : ℕ) (at : ℕ → Instruction) (places left index outputs : ℕ) where
+module _ (program : Program) (places left index outputs : ℕ) (i : Flat) (stands : Stands program index i) where
   abbrev reason : ℕ
-  reason = reasonAt (record { count = n; at = at }) places left index outputs
+  reason = reasonAt program places left index outputs
 
-  -- at STOP, which stands at the index N too
-  pub stop-reason : (index < n → at index ≡ Stop) → cond (leb n index) pastEnd stopped ≡ reason
-  unfolding reasonAt isStop
-  stop-reason here =
+  -- at STOP, which stands past the last instruction, too
+  stop-reason : i ≡ flat.Stop → cond (leb (program .count) index) pastEnd stopped ≡ reason
+  unfolding reasonAt isStop meaning
+  stop-reason e =
       ⊎-elim
-      (λ (below : index < n). rw (lt-leb n index below, here below) refl)
-      (λ (past : n ≤ index). rw (le-leb n index past) refl)
-      (lt-or-ge index n)
+      (λ (below : index < program .count). rw (lt-leb (program .count) index below, stands .below below, e) refl)
+      (λ (past : program .count ≤ index). rw (le-leb (program .count) index past) refl)
+      (lt-or-ge index (program .count))
 
-  module _ (i : Instruction) (s : false ≡ isStop i) (here : index < n → at index ≡ i) (end : n ≤ index → i ≡ Stop) where
-    below : index < n
-    unfolding isStop
-    below = ⊎-elim (λ (l : index < n). l) (λ (past : n ≤ index). apart (sym (s ∙ ap isStop (end past)))) (lt-or-ge index n)
+  module _ (s : false ≡ isStop (meaning i)) where
+    below : index < program .count
+    unfolding isStop meaning
+    below =
+        ⊎-elim
+        (λ (l : index < program .count). l)
+        (λ (past : program .count ≤ index). apart (sym (s ∙ ap (λ (j : Flat). isStop (meaning j)) (stands .past past))))
+        (lt-or-ge index (program .count))
 
-    pub emit-reason : true ≡ isEmit i → cond (leb places outputs) noPlace (cond (eqb left 0) noBudget goesOn) ≡ reason
+    emit-reason : true ≡ isEmit (meaning i) → cond (leb places outputs) noPlace (cond (eqb left 0) noBudget goesOn) ≡ reason
     unfolding reasonAt
-    emit-reason e = rw (lt-leb n index below, here below, sym s, sym e) refl
+    emit-reason e = rw (lt-leb (program .count) index below, stands .below below, sym s, sym e) refl
 
-    pub other-reason : false ≡ isEmit i → cond (eqb left 0) noBudget goesOn ≡ reason
+    other-reason : false ≡ isEmit (meaning i) → cond (eqb left 0) noBudget goesOn ≡ reason
     unfolding reasonAt
-    other-reason e = rw (lt-leb n index below, here below, sym s, sym e) refl
+    other-reason e = rw (lt-leb (program .count) index below, stands .below below, sym s, sym e) refl
+
+-- what is said of the budget
+ending : (past : Bool) → cond past pastEnd stopped ≡ 0 → ⊥
+ending true e = omega arith
+ending false e = omega arith
+
+budget-left : (left : ℕ) → cond (eqb left 0) noBudget goesOn ≡ 0 → 0 < left
+budget-left zero e = omega arith
+budget-left (suc left) e = omega arith
+
+budget-placed : (full : Bool) (left : ℕ) → cond full noPlace (cond (eqb left 0) noBudget goesOn) ≡ 0 → 0 < left
+budget-placed true left e = omega arith
+budget-placed false left e = budget-left left e
+
+-- by what a match has sorted out
+module _ {i : Flat} {n places left : ℕ} {c : Counts} {r : ℕ} where
+  pub at-stop : r ≡ cond (leb n (c .index)) pastEnd stopped → i ≡ flat.Stop → Reasons i n places left c r
+  at-stop e is =
+      record {
+        told = λ program same stands. e ∙ rw (sym same) (stop-reason program places left (c .index) (c .outputs) i stands is);
+        budget = λ none. absurd (ending (leb n (c .index)) (sym e ∙ none));
+      }
+
+  pub at-emit : (a port : ℕ) → r ≡ cond (leb places (c .outputs)) noPlace (cond (eqb left 0) noBudget goesOn) → i ≡ flat.Emit a port → Reasons i n places left c r
+  unfolding isStop isEmit meaning
+  at-emit a port e is =
+      record {
+        told = λ program same stands. e ∙ emit-reason program places left (c .index) (c .outputs) i stands (rw is refl) (rw is refl);
+        budget = λ none. budget-placed (leb places (c .outputs)) left (sym e ∙ none);
+      }
+
+  pub at-others : r ≡ cond (eqb left 0) noBudget goesOn → OneOf others (tagOf the-type i) → Reasons i n places left c r
+  at-others e one =
+      let p = goes-past i one in
+      record {
+        told = λ program same stands. e ∙ other-reason program places left (c .index) (c .outputs) i stands (p .0) (p .1);
+        budget = λ none. budget-left left (sym e ∙ none);
+      }
+
+  -- a turn that goes on takes one of the budget
+  pub has-budget : Reasons i n places left c r → r ≡ 0 → 1 ≤ left
+  has-budget told none = told .budget none
+
+  pub takes-budget : Reasons i n places left c r → r ≡ 0 → left - 1 < left
+  takes-budget told none = omega (arith, told .budget none)
 
 -- ---- one step
 next-stepped : (program : Program) (w : World) → stepped (program .at (w .counts .index)) w ≡ nextOf program w
@@ -118,71 +166,129 @@ step-outputs : (i : Instruction) (w : World) → length (stepped i w .outputList
 unfolding stepped
 step-outputs i w = length-outputs-entered (w .counts .outputs) (outputsOf i (w .parts .regs)) (w .outputList)
 
+-- ---- a turn: it stays where there is a reason to stop, else it steps
+pub turn-stays : (i : Flat) (reason : ℕ) (w : World) → (reason ≡ 0 → ⊥) → Turned i reason w w
+turn-stays i reason w some = record { steps = λ none. absurd (some none); stays = λ _. refl }
+
+pub turn-steps : (i : Flat) (reason : ℕ) (w w′ : World) → reason ≡ 0 → w′ ≡ stepped (meaning i) w → Turned i reason w w′
+turn-steps i reason w w′ none e = record { steps = λ _. e; stays = λ some. absurd (some none) }
+
 -- ---- the loop
+-- the buffers and lists have the sizes that they had at the start
+pub record SameSizes (start w : World) : Type 0 where
+  pub mem : length (w .parts .mem) ≡ length (start .parts .mem)
+  pub memV : length (w .parts .memV) ≡ length (start .parts .memV)
+  pub memA : length (w .parts .memA) ≡ length (start .parts .memA)
+  pub reports : length (w .reportList) ≡ length (start .reportList)
+  pub outputs : length (w .outputList) ≡ length (start .outputList)
+
 -- from the start to here is a part of the run, and the run may go on from here
 pub record Going (program : Program) (m left₀ : ℕ) (start : World) (left : ℕ) (w : World) : Type 0 where
   pub same : runOf program left₀ start ≡ runOf program left w
   pub runnable : Runnable (program .count) m w
   pub within : w .counts .steps + left ≤ mostSteps
-  pub reports : length (w .reportList) ≡ length (start .reportList)
-  pub outputs : length (w .outputList) ≡ length (start .outputList)
+  pub sizes : SameSizes start w
 
 pub begins : (program : Program) (m left : ℕ) (c : Counts) (p : Parts) (reports outputs : List ℕ) → Ready (program .count) m c p reports outputs left
     → Going program m left (world c p reports outputs) left (world c p reports outputs)
-begins program m left c p reports outputs r = record { same = refl; runnable = r .runnable; within = r .within; reports = refl; outputs = refl }
-
--- the counts have room for one step more
-pub room : (program : Program) (m left₀ : ℕ) (start : World) (left : ℕ) (c : Counts) (p : Parts) (reports outputs : List ℕ)
-    → Going program m left₀ start left (world c p reports outputs) → program .count ≤ mostN → Room c
-room program m left₀ start left c p reports outputs g few =
+begins program m left c p reports outputs r =
     record {
-      index = omega (arith, g .runnable .index, few);
-      steps = omega (arith, g .within);
-      outputs = omega (arith, g .runnable .outputs, g .runnable .output-list .few);
-      reports = omega (arith, g .runnable .reports, g .within);
+      same = refl;
+      runnable = r .runnable;
+      within = r .within;
+      sizes = record { mem = refl; memV = refl; memA = refl; reports = refl; outputs = refl };
     }
 
-module _ (program : Program) (m left₀ : ℕ) (start : World) (left : ℕ) (w : World) (g : Going program m left₀ start left w) (places found : ℕ)
-    (all : places ≡ outputPlaces (start .outputList)) (told : found ≡ reasonAt program places left (w .counts .index) (w .counts .outputs)) where
-  -- what the loop has looked at is the reason of the run
-  looked : found ≡ reasonOf program left w
-  unfolding reasonOf
-  looked = told ∙ ap (λ (k : ℕ). reasonAt program k left (w .counts .index) (w .counts .outputs)) (all ∙ ap (λ (k : ℕ). k / outputSize) (sym (g .outputs)))
+module _ {program : Program} {m left₀ : ℕ} {start : World} {left : ℕ} {c : Counts} {regs regsV mem memV memA reports outputs : List ℕ}
+    (g : Going program m left₀ start left (world c (parts regs regsV mem memV memA) reports outputs)) where
+  abbrev now′ : World
+  now′ = world c (parts regs regsV mem memV memA) reports outputs
 
-  -- there is one: the run ends here
-  pub ends : (found ≡ 0 → ⊥) → ended found w ≡ runOf program left₀ start
-  ends some = sym (g .same ∙ go found looked some)
-    where
-      go : (r : ℕ) → r ≡ reasonOf program left w → (r ≡ 0 → ⊥) → runOf program left w ≡ ended r w
-      go zero e n = absurd (n refl)
-      go (suc r) e n = halts (reasonOf program) (nextOf program) left r w (sym e)
+  -- the index has an entry in the table
+  pub index-within : program .count ≤ mostN → c .index < mostN + 1
+  index-within few = omega (arith, g .runnable .index, few)
 
-  -- there is none
-  module _ (none : found ≡ 0) where
-    pub goes-here : Goes program places left (w .counts .index) (w .counts .outputs)
-    goes-here = reason-goes program places left (w .counts .index) (w .counts .outputs) (sym told ∙ none)
+  module _ {table : List Flat} (decoded : Decodes program table) where
+    abbrev here : Flat
+    here = getD table (c .index) flat.Stop
 
-    module _ (fits : (i : ℕ) → i < program .count → Fits (program .count) m (program .at i)) (i : Instruction) (here : program .at (w .counts .index) ≡ i) where
-      pub fits-here : Fits (program .count) (length (w .parts .memA)) i
-      fits-here =
-          subst (λ (k : ℕ). Fits (program .count) k i) (sym (g .runnable .memA)) (subst (Fits (program .count) m) here (fits (w .counts .index) (goes-here .before-end)))
+    stands : Stands program (c .index) here
+    stands = decoded .at (c .index)
 
-      -- a step, and the run goes on
-      pub goes-further : (w′ : World) → w′ ≡ stepped i w → Going program m left₀ start (left - 1) w′
-      goes-further w′ e =
-          record {
-            same = g .same ∙ goes-on-by (reasonOf program) (nextOf program) left w w′ (goes-here .has-budget) (sym looked ∙ none) next;
-            runnable = subst (Runnable (program .count) m) (sym next) (step-runnable program m fits left w (g .runnable) (sym looked ∙ none));
-            within = omega (arith, counts, goes-here .has-budget, g .within);
-            reports = lists .0 ∙ g .reports;
-            outputs = lists .1 ∙ g .outputs;
-          }
+    -- ---- what a turn asks for
+    fits : ((i : ℕ) → i < program .count → Fits (program .count) m (program .at i)) → FitsMemory (length memA) (meaning here)
+    unfolding meaning
+    fits all =
+        ⊎-elim
+        (λ (l : c .index < program .count).
+        record { count = program .count; fits = rw (g .runnable .memA, sym (stands .below l)) (all (c .index) l) })
+        (λ (past : program .count ≤ c .index). rw (stands .past past) (record { count = 0; fits = tt }))
+        (lt-or-ge (c .index) (program .count))
+
+    pub may-step : program .count ≤ mostN → ((i : ℕ) → i < program .count → Fits (program .count) m (program .at i)) → MayStep c (meaning here) mem memV memA
+    may-step few all =
+        record {
+          room =
+              record {
+                step =
+                    record {
+                      index = omega (arith, g .runnable .index, few);
+                      steps = omega (arith, g .within);
+                      outputs = omega (arith, g .runnable .outputs, g .runnable .output-list .few);
+                    };
+                reports = omega (arith, g .runnable .reports, g .within);
+              };
+          sizes = record { size = g .runnable .mem ∙ sym (g .runnable .memA); sizeV = g .runnable .memV ∙ sym (g .runnable .memA); sizeA = refl };
+          fits = fits all;
+        }
+
+    -- ---- what it leaves
+    module _ {places found : ℕ} (all : places ≡ outputPlaces (start .outputList)) (told : Reasons here (program .count) places left c found)
+        {w′ : World} (turned : Turned here found now′ w′) where
+      -- what the turn has looked at is the reason of the run
+      looked : found ≡ reasonOf program left now′
+      unfolding reasonOf
+      looked =
+          told .told program refl stands
+          ∙ ap (λ (k : ℕ). reasonAt program k left (c .index) (c .outputs)) (all ∙ ap (λ (k : ℕ). k / outputSize) (sym (g .sizes .outputs)))
+
+      -- there is one: the run ends here, and nothing has changed
+      pub stays : (found ≡ 0 → ⊥) → SameSizes start w′
+      stays some = subst (SameSizes start) (sym (turned .stays some)) (g .sizes)
+
+      pub ends : (found ≡ 0 → ⊥) → ended found w′ ≡ runOf program left₀ start
+      ends some = ap (ended found) (turned .stays some) ∙ sym (g .same ∙ go found looked some)
         where
-          next : w′ ≡ nextOf program w
-          next = e ∙ ap (λ (j : Instruction). stepped j w) (sym here) ∙ next-stepped program w
+          go : (r : ℕ) → r ≡ reasonOf program left now′ → (r ≡ 0 → ⊥) → runOf program left now′ ≡ ended r now′
+          go zero e n = absurd (n refl)
+          go (suc r) e n = halts (reasonOf program) (nextOf program) left r _ (sym e)
 
-          counts : w′ .counts .steps ≡ w .counts .steps + 1
-          counts = ap (λ (v : World). v .counts .steps) e ∙ step-steps i w
+      -- there is none: a step, and the run goes on
+      module _ (none : found ≡ 0) where
+        goes-here : Goes program places left (c .index) (c .outputs)
+        goes-here = reason-goes program places left (c .index) (c .outputs) (sym (told .told program refl stands) ∙ none)
 
-          lists : (length (w′ .reportList) ≡ length (w .reportList)) × (length (w′ .outputList) ≡ length (w .outputList))
-          lists = (ap (λ (v : World). length (v .reportList)) e ∙ step-reports i w, ap (λ (v : World). length (v .outputList)) e ∙ step-outputs i w)
+        next : w′ ≡ nextOf program now′
+        next = turned .steps none ∙ ap (λ (j : Instruction). stepped j now′) (sym (stands .below (goes-here .before-end))) ∙ next-stepped program _
+
+        pub goes-further : ((i : ℕ) → i < program .count → Fits (program .count) m (program .at i)) → Going program m left₀ start (left - 1) w′
+        goes-further all′ =
+            record {
+              same = g .same ∙ goes-on-by (reasonOf program) (nextOf program) left _ w′ (told .budget none) (sym looked ∙ none) next;
+              runnable = runs;
+              within = omega (arith, counts, told .budget none, g .within);
+              sizes =
+                  record {
+                    mem = runs .mem ∙ sym (g .runnable .mem) ∙ g .sizes .mem;
+                    memV = runs .memV ∙ sym (g .runnable .memV) ∙ g .sizes .memV;
+                    memA = runs .memA ∙ sym (g .runnable .memA) ∙ g .sizes .memA;
+                    reports = ap (λ (v : World). length (v .reportList)) (turned .steps none) ∙ step-reports (meaning here) _ ∙ g .sizes .reports;
+                    outputs = ap (λ (v : World). length (v .outputList)) (turned .steps none) ∙ step-outputs (meaning here) _ ∙ g .sizes .outputs;
+                  };
+            }
+          where
+            runs : Runnable (program .count) m w′
+            runs = subst (Runnable (program .count) m) (sym next) (step-runnable program m all′ left _ (g .runnable) (sym looked ∙ none))
+
+            counts : w′ .counts .steps ≡ c .steps + 1
+            counts = ap (λ (v : World). v .counts .steps) (turned .steps none) ∙ step-steps (meaning here) _

@@ -18,7 +18,7 @@ use Rattle.machine.proofs.StepBounds.{few-undefined}
 use Rattle.machine.proofs.ListLaws.{reports-append}
 use Rattle.checker.specs.declared.Counts.{Counts}
 use Rattle.checker.specs.Views.{world}
-use Rattle.checker.specs.Pieces.{Room, reported, moved, Reports}
+use Rattle.checker.specs.Pieces.{Room, StepRoom, reported, moved, Reports}
 
 -- ---- entries of the lists, word by word
 pub two-entered : (k x y : ℕ) (l : List ℕ) → k < length l / outputSize → set (set l (2 * k) x) (2 * k + 1) y ≡ entered outputSize k (x ∷ y ∷ []) l
@@ -75,29 +75,17 @@ pub blocked-one : (kind at : ℕ) (whole : Bool) (c t : Counts) (l l′ : List �
 unfolding ifBlocked
 blocked-one kind at whole c t l l′ e r = rw e r
 
--- a check leaves the other counts
-pub record Kept (c t : Counts) : Type 0 where
-  pub index : t .index ≡ c .index
-  pub steps : t .steps ≡ c .steps
-  pub outputs : t .outputs ≡ c .outputs
-
-pub kept : (rs : List Report) (c t : Counts) (l l′ : List ℕ) → Reports rs c l t l′ → Kept c t
-kept rs c t l l′ r =
+-- a check leaves room to count a step after it
+pub room-kept : (rs : List Report) (c t : Counts) (l l′ : List ℕ) → Reports rs c l t l′ → Room c → Room t
+room-kept rs c t l l′ r room =
     record {
-      index = ap (λ (x : Counts). x .index) (r .counts);
-      steps = ap (λ (x : Counts). x .steps) (r .counts);
-      outputs = ap (λ (x : Counts). x .outputs) (r .counts);
+      index = omega (arith, ap (λ (x : Counts). x .index) (r .counts), room .index);
+      steps = omega (arith, ap (λ (x : Counts). x .steps) (r .counts), room .steps);
+      outputs = omega (arith, ap (λ (x : Counts). x .outputs) (r .counts), room .outputs);
     }
 
--- so there is room to count a step after it
-pub room-next : (rs : List Report) (c t : Counts) (l l′ : List ℕ) → Reports rs c l t l′ → Room c → (t .index + 1 < 2 ^ 32) × (t .steps + 1 < 2 ^ 32)
-room-next rs c t l l′ r room = let k = kept rs c t l l′ r in (omega (arith, k .index, room .index), omega (arith, k .steps, room .steps))
-
-pub room-output : (rs : List Report) (c t : Counts) (l l′ : List ℕ) → Reports rs c l t l′ → Room c → (t .index + 1 < 2 ^ 32) × (t .steps + 1 < 2 ^ 32) × (t .outputs + 1 < 2 ^ 32)
-room-output rs c t l l′ r room = let n = room-next rs c t l l′ r room in (n .0, n .1, omega (arith, kept rs c t l l′ r .outputs, room .outputs))
-
--- and for a second check after the first
-pub room-check : (kind v : ℕ) (c t : Counts) (l l′ : List ℕ) → Reports (ifUndefined kind v) c l t l′ → Room c → t .reports + 1 < 2 ^ 32
+-- and the first check for the second
+pub room-check : (kind v : ℕ) (c t : Counts) (l l′ : List ℕ) → Reports (ifUndefined kind v) c l t l′ → StepRoom c → t .reports + 1 < 2 ^ 32
 room-check kind v c t l l′ r room = omega (arith, ap (λ (x : Counts). x .reports) (r .counts), few-undefined kind v, room .reports)
 
 -- V that is 0 is as if cleared

@@ -1,4 +1,4 @@
 pub mod Views
 pub mod Promises
-pub mod Pieces
 pub mod Flat
+pub mod Pieces

@@ -2,7 +2,7 @@
 use super::Counts;
 ghost use mathlib.Core.Path.{_≡_};
 ghost use Prim.Native.Nat.{_+_, _^_, _<_};
-ghost use Rattle.checker.specs.Pieces.{reported, moved};
+ghost use Rattle.checker.specs.Pieces.{Room, reported, moved};
 
 // A report is made.
 pub fn note(c: Counts) -> Counts
@@ -19,7 +19,7 @@ pub fn note(c: Counts) -> Counts
 
 // A step is taken that goes on at an index.
 pub fn go_to(c: Counts, index: u32) -> Counts
-    requires { ⌜ c .steps + 1 < 2 ^ 32 ⌝ }
+    requires { ⌜ Room c ⌝ }
     ensures { λ r. ⌜ r ≡ moved index 0 c ⌝ }
 {
     Counts {
@@ -32,7 +32,7 @@ pub fn go_to(c: Counts, index: u32) -> Counts
 
 // A step is taken that goes on at the next index.
 pub fn next(c: Counts) -> Counts
-    requires { ⌜ (c .index + 1 < 2 ^ 32) × (c .steps + 1 < 2 ^ 32) ⌝ }
+    requires { ⌜ Room c ⌝ }
     ensures { λ r. ⌜ r ≡ moved (c .index + 1) 0 c ⌝ }
 {
     go_to(c, c.index + 1)
@@ -40,7 +40,7 @@ pub fn next(c: Counts) -> Counts
 
 // The same of a step that puts out a value.
 pub fn put_out(c: Counts) -> Counts
-    requires { ⌜ (c .index + 1 < 2 ^ 32) × (c .steps + 1 < 2 ^ 32) × (c .outputs + 1 < 2 ^ 32) ⌝ }
+    requires { ⌜ Room c ⌝ }
     ensures { λ r. ⌜ r ≡ moved (c .index + 1) 1 c ⌝ }
 {
     Counts {

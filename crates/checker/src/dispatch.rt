@@ -8,17 +8,12 @@ use image::Operand;
 use rules::Data;
 use rules::Operation;
 ghost use mathlib.Core.Path.{_≡_};
-ghost use mathlib.Core.List.{List};
-ghost use Prim.Native.Nat.{ℕ, _<_};
-ghost use lib.ListN.{length};
-ghost use Rattle.image.specs.Format.{registers};
-ghost use Rattle.image.specs.Accepted.{Fits};
 ghost use Rattle.image.specs.declared.Instruction.the-variants.{Compute};
 ghost use Rattle.image.specs.declared.Operand.the-variants.{Register, Literal};
 ghost use Rattle.machine.specs.Machine.{parts};
 ghost use Rattle.machine.specs.Checker.{stepped};
 ghost use Rattle.checker.specs.Views.{world};
-ghost use Rattle.checker.specs.Pieces.{Room, Sizes};
+ghost use Rattle.checker.specs.Pieces.{Room, StepsRegisters, FitsSome, MayStep};
 ghost use Rattle.checker.specs.Flat.{meaning};
 
 // An operation on two registers.
@@ -31,8 +26,8 @@ fn on_register(
     regs: &mut [u32; 16],
     shadows: &mut [u32; 16],
 ) -> Counts
-    requires { ⌜ Room c × (d < registers) × (a < registers) × (b < registers) ⌝ }
-    ensures { λ t. ⌜ ((mem memV memA reports outputs : List ℕ) → world t (parts (now (regs .exit)) (now (shadows .exit)) mem memV memA) reports outputs ≡ stepped (Compute op d a (Register b)) (world c (parts (now (regs .entry)) (now (shadows .entry)) mem memV memA) reports outputs)) ⌝ }
+    requires { ⌜ Room c × FitsSome (Compute op d a (Register b)) ⌝ }
+    ensures { λ t. ⌜ StepsRegisters (Compute op d a (Register b)) c (now (regs .entry)) (now (shadows .entry)) t (now (regs .exit)) (now (shadows .exit)) ⌝ }
 {
     step::compute(c, op, d, a, Operand::Register(b), regs, shadows)
 }
@@ -47,8 +42,8 @@ fn on_literal(
     regs: &mut [u32; 16],
     shadows: &mut [u32; 16],
 ) -> Counts
-    requires { ⌜ Room c × (d < registers) × (a < registers) ⌝ }
-    ensures { λ t. ⌜ ((mem memV memA reports outputs : List ℕ) → world t (parts (now (regs .exit)) (now (shadows .exit)) mem memV memA) reports outputs ≡ stepped (Compute op d a (Literal y)) (world c (parts (now (regs .entry)) (now (shadows .entry)) mem memV memA) reports outputs)) ⌝ }
+    requires { ⌜ Room c × FitsSome (Compute op d a (Literal y)) ⌝ }
+    ensures { λ t. ⌜ StepsRegisters (Compute op d a (Literal y)) c (now (regs .entry)) (now (shadows .entry)) t (now (regs .exit)) (now (shadows .exit)) ⌝ }
 {
     step::compute(c, op, d, a, Operand::Literal(y), regs, shadows)
 }
@@ -65,7 +60,7 @@ pub fn step(
     reports: &mut [u32],
     outputs: &mut [u32],
 ) -> Counts
-    requires { ⌜ Room c × Sizes (length (now abits)) (now mem) (now vbits) (now abits) × ((n : ℕ) × Fits n (length (now abits)) (meaning i)) ⌝ }
+    requires { ⌜ MayStep c (meaning i) (now mem) (now vbits) (now abits) ⌝ }
     ensures { λ t. ⌜ world t (parts (now (regs .exit)) (now (shadows .exit)) (now (mem .exit)) (now (vbits .exit)) (now (abits .exit))) (now (reports .exit)) (now (outputs .exit)) ≡ stepped (meaning i) (world c (parts (now (regs .entry)) (now (shadows .entry)) (now (mem .entry)) (now (vbits .entry)) (now (abits .entry))) (now (reports .entry)) (now (outputs .entry))) ⌝ }
 {
     match i {

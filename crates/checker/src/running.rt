@@ -11,20 +11,17 @@ use image::Instruction;
 use image::format::MOST_N;
 ghost use mathlib.Core.Path.{_≡_};
 ghost use mathlib.Core.Bool.{cond};
-ghost use Prim.Native.Nat.{ℕ, _≤_, _<_, _/_};
+ghost use Prim.Native.Nat.{_≤_};
 ghost use lib.Dec.{eqb, leb};
-ghost use lib.ListN.{getD};
 ghost use Rattle.image.specs.Format.{mostN};
-ghost use Rattle.image.specs.declared.Instruction.{Instruction};
 ghost use Rattle.machine.specs.Machine.{parts, programIn};
-ghost use Rattle.machine.specs.Runs.{goesOn, stopped, pastEnd, noBudget, noPlace, reasonAt, ended};
+ghost use Rattle.machine.specs.Runs.{goesOn, stopped, pastEnd, noBudget, noPlace, ended};
 ghost use Rattle.machine.specs.Checker.{runOf};
-ghost use Rattle.checker.specs.declared.flat.Flat.the-variants.{Stop};
 ghost use Rattle.checker.specs.Flat.{meaning};
 ghost use Rattle.checker.specs.Views.{world};
-ghost use Rattle.checker.specs.Pieces.{CodeFits, Ready};
+ghost use Rattle.checker.specs.Pieces.{MayStep, CodeFits, Ready, Decodes, Reasons, Turned};
 
-// How a run ended, and its counts.
+// Why a run ended, or that it goes on, and its counts.
 pub struct Ended {
     pub reason: u8,
     pub counts: Counts,
@@ -46,8 +43,7 @@ fn instruction_at(code: &[u8], index: usize, n: u32, m: u32) -> Instruction
 // The instructions, decoded once; past the last, STOP.
 fn decode_all(code: &[u8], n: u32, m: u32) -> [Flat; ENTRIES]
     requires { ⌜ n ≤ mostN ⌝ }
-    ensures { λ r. ⌜ ((i : ℕ) → i < n → meaning (getD r i Stop) ≡ programIn (now (code .entry)) n m .at i) ⌝ }
-    ensures { λ r. ⌜ ((i : ℕ) → n ≤ i → getD r i Stop ≡ Stop) ⌝ }
+    ensures { λ r. ⌜ Decodes (programIn (now (code .entry)) n m) r ⌝ }
 {
     let mut program = [Flat::Stop; ENTRIES];
     let count = n as usize;
@@ -93,7 +89,7 @@ fn at_emit(outputs: u32, places: usize, left: u32) -> u8
 
 // Why a run ends before the instruction i, if it does.
 fn reason_at(i: Flat, n: u32, places: usize, left: u32, c: Counts) -> u8
-    ensures { λ r. ⌜ ((at : ℕ → Instruction) → (c .index < n → at (c .index) ≡ meaning i) → (n ≤ c .index → i ≡ Stop) → r ≡ reasonAt (record { count = n; at = at }) places left (c .index) (c .outputs)) ⌝ }
+    ensures { λ r. ⌜ Reasons i n places left c r ⌝ }
 {
     match i {
         Flat::Stop => at_stop(c.index, n),
@@ -103,6 +99,39 @@ fn reason_at(i: Flat, n: u32, places: usize, left: u32, c: Counts) -> u8
 }
 
 // ---- the loop
+// One turn: the reason to stop before the instruction i, or its step.
+fn turn(
+    i: Flat,
+    n: u32,
+    places: usize,
+    left: u32,
+    c: Counts,
+    regs: &mut [u32; 16],
+    shadows: &mut [u32; 16],
+    mem: &mut [u8],
+    vbits: &mut [u8],
+    abits: &mut [u8],
+    reports: &mut [u32],
+    outputs: &mut [u32],
+) -> Ended
+    requires { ⌜ MayStep c (meaning i) (now mem) (now vbits) (now abits) ⌝ }
+    ensures { λ r. ⌜ Reasons i n places left c (r .reason) ⌝ }
+    ensures { λ r. ⌜ Turned i (r .reason) (world c (parts (now (regs .entry)) (now (shadows .entry)) (now (mem .entry)) (now (vbits .entry)) (now (abits .entry))) (now (reports .entry)) (now (outputs .entry))) (world (r .counts) (parts (now (regs .exit)) (now (shadows .exit)) (now (mem .exit)) (now (vbits .exit)) (now (abits .exit))) (now (reports .exit)) (now (outputs .exit))) ⌝ }
+{
+    let found = reason_at(i, n, places, left, c);
+    if found != reasons::GOES_ON {
+        return Ended {
+            reason: found,
+            counts: c,
+        };
+    }
+    let next = dispatch::step(c, i, regs, shadows, mem, vbits, abits, reports, outputs);
+    Ended {
+        reason: found,
+        counts: next,
+    }
+}
+
 pub fn run_on(
     code: &[u8],
     n: u32,
@@ -126,12 +155,24 @@ pub fn run_on(
     let mut left = budget;
     let reason = loop {
         let at = c.index as usize;
-        let i = program[at];
-        let found = reason_at(i, n, places, left, c);
-        if found != reasons::GOES_ON {
-            break found;
+        let went = turn(
+            program[at],
+            n,
+            places,
+            left,
+            c,
+            regs,
+            shadows,
+            mem,
+            vbits,
+            abits,
+            reports,
+            outputs,
+        );
+        c = went.counts;
+        if went.reason != reasons::GOES_ON {
+            break went.reason;
         }
-        c = dispatch::step(c, i, regs, shadows, mem, vbits, abits, reports, outputs);
         left -= 1;
     };
     Ended {

@@ -13,8 +13,8 @@ use rules::Operation;
 use rules::Shadow;
 ghost use mathlib.Core.Path.{_≡_};
 ghost use mathlib.Core.Bool.{not};
-ghost use mathlib.Core.List.{List, [], _∷_};
-ghost use Prim.Native.Nat.{ℕ, _+_, _^_, _≤_, _<_};
+ghost use mathlib.Core.List.{[], _∷_};
+ghost use Prim.Native.Nat.{_+_, _^_, _<_};
 ghost use lib.ListN.{length, getD, set};
 ghost use Rattle.image.specs.Format.{registers};
 ghost use Rattle.image.specs.Accepted.{OperandFits};
@@ -22,9 +22,7 @@ ghost use Rattle.image.specs.declared.Instruction.the-variants.{Move, Compute, 
 ghost use Rattle.machine.specs.Machine.{parts};
 ghost use Rattle.machine.specs.Instructions.{operandData, addressOf};
 ghost use Rattle.machine.specs.Steps.{operandV, sameRegister, markOf, report, ifUndefined, ifBlocked};
-ghost use Rattle.machine.specs.Checker.{stepped};
-ghost use Rattle.checker.specs.Views.{world};
-ghost use Rattle.checker.specs.Pieces.{Room, Reports, Sizes};
+ghost use Rattle.checker.specs.Pieces.{Room, StepRoom, Reports, Accessed, StepsRegisters, StepsParts, StepsUse, StepsOutput, StepsMarks, Sizes, FitsMemory, FitsSome};
 
 // ---- operands and registers
 // The data of B.
@@ -111,10 +109,45 @@ fn use_bytes(c: Counts, kind: u32, whole: bool, place: u32, reports: &mut [u32])
     put_report(c, kind, place, reports)
 }
 
+// An access to memory after its checks: where it begins, whether all its bytes are addressable, and
+// the counts with its reports.
+struct Access {
+    at: usize,
+    whole: bool,
+    counts: Counts,
+}
+
+// The checks of a load or store, in their order: of register a, then of the bytes.
+fn checked(
+    c: Counts,
+    kind: u32,
+    width: Width,
+    a: u8,
+    imm: u32,
+    regs: &[u32; 16],
+    shadows: &mut [u32; 16],
+    abits: &[u8],
+    reports: &mut [u32],
+) -> Access
+    requires { ⌜ StepRoom c × (a < registers) ⌝ }
+    ensures { λ r. ⌜ Accessed kind width a imm (now (regs .entry)) (now (abits .entry)) c (now (shadows .entry)) (now (reports .entry)) (r .at) (r .whole) (r .counts) (now (shadows .exit)) (now (reports .exit)) ⌝ }
+{
+    let place = address(regs, a, imm);
+    let at = place as usize;
+    let whole = ranges::all_addressable(width, abits, at);
+    let t = use_register(c, kinds::UNDEFINED_ADDRESS, a, shadows, reports);
+    let u = use_bytes(t, kind, whole, place, reports);
+    Access {
+        at: at,
+        whole: whole,
+        counts: u,
+    }
+}
+
 // ---- the groups of instructions
 pub fn copy(c: Counts, d: u8, b: Operand, regs: &mut [u32; 16], shadows: &mut [u32; 16]) -> Counts
-    requires { ⌜ Room c × (d < registers) × OperandFits b ⌝ }
-    ensures { λ t. ⌜ ((mem memV memA reports outputs : List ℕ) → world t (parts (now (regs .exit)) (now (shadows .exit)) mem memV memA) reports outputs ≡ stepped (Move d b) (world c (parts (now (regs .entry)) (now (shadows .entry)) mem memV memA) reports outputs)) ⌝ }
+    requires { ⌜ Room c × FitsSome (Move d b) ⌝ }
+    ensures { λ t. ⌜ StepsRegisters (Move d b) c (now (regs .entry)) (now (shadows .entry)) t (now (regs .exit)) (now (shadows .exit)) ⌝ }
 {
     let x = rules::actions::mov(operand(b, regs));
     let v = rules::shadows::mov(operand_v(b, shadows));
@@ -131,8 +164,8 @@ pub fn compute(
     regs: &mut [u32; 16],
     shadows: &mut [u32; 16],
 ) -> Counts
-    requires { ⌜ Room c × (d < registers) × (a < registers) × OperandFits b ⌝ }
-    ensures { λ t. ⌜ ((mem memV memA reports outputs : List ℕ) → world t (parts (now (regs .exit)) (now (shadows .exit)) mem memV memA) reports outputs ≡ stepped (Compute op d a b) (world c (parts (now (regs .entry)) (now (shadows .entry)) mem memV memA) reports outputs)) ⌝ }
+    requires { ⌜ Room c × FitsSome (Compute op d a b) ⌝ }
+    ensures { λ t. ⌜ StepsRegisters (Compute op d a b) c (now (regs .entry)) (now (shadows .entry)) t (now (regs .exit)) (now (shadows .exit)) ⌝ }
 {
     let x = Data(regs[a as usize]);
     let v = Shadow(shadows[a as usize]);
@@ -157,18 +190,24 @@ pub fn load(
     abits: &[u8],
     reports: &mut [u32],
 ) -> Counts
-    requires { ⌜ Room c × (d < registers) × (a < registers) × Sizes (length (now abits)) (now mem) (now vbits) (now abits) ⌝ }
-    ensures { λ t. ⌜ ((outputs : List ℕ) → world t (parts (now (regs .exit)) (now (shadows .exit)) (now (mem .entry)) (now (vbits .entry)) (now (abits .entry))) (now (reports .exit)) outputs ≡ stepped (Load width d a imm) (world c (parts (now (regs .entry)) (now (shadows .entry)) (now (mem .entry)) (now (vbits .entry)) (now (abits .entry))) (now (reports .entry)) outputs)) ⌝ }
+    requires { ⌜ StepRoom c × FitsSome (Load width d a imm) × Sizes (length (now abits)) (now mem) (now vbits) (now abits) ⌝ }
+    ensures { λ t. ⌜ StepsParts (Load width d a imm) c (parts (now (regs .entry)) (now (shadows .entry)) (now (mem .entry)) (now (vbits .entry)) (now (abits .entry))) (now (reports .entry)) t (parts (now (regs .exit)) (now (shadows .exit)) (now (mem .entry)) (now (vbits .entry)) (now (abits .entry))) (now (reports .exit)) ⌝ }
 {
-    let place = address(regs, a, imm);
-    let at = place as usize;
-    let whole = ranges::all_addressable(width, abits, at);
-    let t = use_register(c, kinds::UNDEFINED_ADDRESS, a, shadows, reports);
-    let x = Data(ranges::load(whole, width, abits, mem, at));
-    let v = Shadow(ranges::load(whole, width, abits, vbits, at));
-    let u = use_bytes(t, kinds::UNADDRESSABLE_LOAD, whole, place, reports);
+    let found = checked(
+        c,
+        kinds::UNADDRESSABLE_LOAD,
+        width,
+        a,
+        imm,
+        regs,
+        shadows,
+        abits,
+        reports,
+    );
+    let x = Data(ranges::load(found.whole, width, abits, mem, found.at));
+    let v = Shadow(ranges::load(found.whole, width, abits, vbits, found.at));
     set_register(d, x, v, regs, shadows);
-    counting::next(u)
+    counting::next(found.counts)
 }
 
 pub fn store(
@@ -184,19 +223,25 @@ pub fn store(
     abits: &[u8],
     reports: &mut [u32],
 ) -> Counts
-    requires { ⌜ Room c × (d < registers) × (a < registers) × Sizes (length (now abits)) (now mem) (now vbits) (now abits) ⌝ }
-    ensures { λ t. ⌜ ((outputs : List ℕ) → world t (parts (now (regs .entry)) (now (shadows .exit)) (now (mem .exit)) (now (vbits .exit)) (now (abits .entry))) (now (reports .exit)) outputs ≡ stepped (Store width d a imm) (world c (parts (now (regs .entry)) (now (shadows .entry)) (now (mem .entry)) (now (vbits .entry)) (now (abits .entry))) (now (reports .entry)) outputs)) ⌝ }
+    requires { ⌜ StepRoom c × FitsSome (Store width d a imm) × Sizes (length (now abits)) (now mem) (now vbits) (now abits) ⌝ }
+    ensures { λ t. ⌜ StepsParts (Store width d a imm) c (parts (now (regs .entry)) (now (shadows .entry)) (now (mem .entry)) (now (vbits .entry)) (now (abits .entry))) (now (reports .entry)) t (parts (now (regs .entry)) (now (shadows .exit)) (now (mem .exit)) (now (vbits .exit)) (now (abits .entry))) (now (reports .exit)) ⌝ }
 {
-    let place = address(regs, a, imm);
-    let at = place as usize;
-    let whole = ranges::all_addressable(width, abits, at);
-    let t = use_register(c, kinds::UNDEFINED_ADDRESS, a, shadows, reports);
-    let u = use_bytes(t, kinds::UNADDRESSABLE_STORE, whole, place, reports);
+    let found = checked(
+        c,
+        kinds::UNADDRESSABLE_STORE,
+        width,
+        a,
+        imm,
+        regs,
+        shadows,
+        abits,
+        reports,
+    );
     let x = Data(regs[d as usize]);
     let v = Shadow(shadows[d as usize]);
-    ranges::store(whole, width, abits, x.0, mem, at);
-    ranges::store(whole, width, abits, v.0, vbits, at);
-    counting::next(u)
+    ranges::store(found.whole, width, abits, x.0, mem, found.at);
+    ranges::store(found.whole, width, abits, v.0, vbits, found.at);
+    counting::next(found.counts)
 }
 
 pub fn jump(
@@ -207,8 +252,8 @@ pub fn jump(
     shadows: &mut [u32; 16],
     reports: &mut [u32],
 ) -> Counts
-    requires { ⌜ Room c × (a < registers) ⌝ }
-    ensures { λ t. ⌜ ((mem memV memA outputs : List ℕ) → world t (parts (now (regs .entry)) (now (shadows .exit)) mem memV memA) (now (reports .exit)) outputs ≡ stepped (Jump a target) (world c (parts (now (regs .entry)) (now (shadows .entry)) mem memV memA) (now (reports .entry)) outputs)) ⌝ }
+    requires { ⌜ StepRoom c × FitsSome (Jump a target) ⌝ }
+    ensures { λ t. ⌜ StepsUse (Jump a target) (now (regs .entry)) c (now (shadows .entry)) (now (reports .entry)) t (now (shadows .exit)) (now (reports .exit)) ⌝ }
 {
     let t = use_register(c, kinds::UNDEFINED_CONDITION, a, shadows, reports);
     let x = Data(regs[a as usize]);
@@ -227,8 +272,8 @@ pub fn emit(
     reports: &mut [u32],
     outputs: &mut [u32],
 ) -> Counts
-    requires { ⌜ Room c × (a < registers) ⌝ }
-    ensures { λ t. ⌜ ((mem memV memA : List ℕ) → world t (parts (now (regs .entry)) (now (shadows .exit)) mem memV memA) (now (reports .exit)) (now (outputs .exit)) ≡ stepped (Emit a port) (world c (parts (now (regs .entry)) (now (shadows .entry)) mem memV memA) (now (reports .entry)) (now (outputs .entry)))) ⌝ }
+    requires { ⌜ StepRoom c × FitsSome (Emit a port) ⌝ }
+    ensures { λ t. ⌜ StepsOutput (Emit a port) (now (regs .entry)) c (now (shadows .entry)) (now (reports .entry)) (now (outputs .entry)) t (now (shadows .exit)) (now (reports .exit)) (now (outputs .exit)) ⌝ }
 {
     let t = use_register(c, kinds::UNDEFINED_OUTPUT, a, shadows, reports);
     let value = Data(regs[a as usize]);
@@ -254,8 +299,8 @@ pub fn mark(
     vbits: &mut [u8],
     abits: &mut [u8],
 ) -> Counts
-    requires { ⌜ Room c × (start + size ≤ length (now abits)) × (length (now vbits) ≡ length (now abits)) ⌝ }
-    ensures { λ t. ⌜ ((regs regsV mem reports outputs : List ℕ) → world t (parts regs regsV mem (now (vbits .exit)) (now (abits .exit))) reports outputs ≡ stepped (Mark addressable start size) (world c (parts regs regsV mem (now (vbits .entry)) (now (abits .entry))) reports outputs)) ⌝ }
+    requires { ⌜ Room c × FitsMemory (length (now abits)) (Mark addressable start size) × (length (now vbits) ≡ length (now abits)) ⌝ }
+    ensures { λ t. ⌜ StepsMarks (Mark addressable start size) c (now (vbits .entry)) (now (abits .entry)) t (now (vbits .exit)) (now (abits .exit)) ⌝ }
 {
     let at = start as usize;
     let count = size as usize;

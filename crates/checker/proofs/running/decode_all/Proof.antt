@@ -4,7 +4,7 @@ use Prim.Native.Nat.{_+_, _-_, _≤_}
 use mathlib.Core.Path.{_∙_}
 use Rattle.image.specs.Format.{mostN}
 use Rattle.machine.specs.Machine.{programIn}
-use Rattle.checker.proofs.DecodingLaws.{Decoding, none-decoded, one-decoded}
+use Rattle.checker.proofs.DecodingLaws.{Decoding, none-decoded, one-decoded, all-decoded}
 use Rattle.checker.proofs.running.decode_all.Statement.{statement}
 use Rattle.checker.proofs.running.decode_all.Tie as tie
 
@@ -28,4 +28,4 @@ decode-all-spec =
     (λ c. search needs)
     (λ c. search needs)
     (λ c. (one-decoded _ (c .before .before .before .loop .inv .0) (omega (arith, c .before .before .before .before .before .pre)) (c .flatten .ensures ∙ c .before .instruction-at .ensures), search needs))
-    (λ c. (λ i h. c .before .loop .inv .0 .holds i (omega arith), λ i h. c .before .loop .inv .0 .rest i (omega arith))))
+    (λ c. search all-decoded))

@@ -1,10 +1,9 @@
 use borrow.Author.Needs.{needs}
-use native.Mathlib.Omega.{arith}
 use Prim.Native.Nat.{_-_}
-use mathlib.Core.Path.{refl, sym, _∙_}
+use mathlib.Core.Path.{refl}
 use Rattle.machine.specs.Machine.{parts, programIn}
 use Rattle.checker.specs.Views.{world}
-use Rattle.checker.proofs.RunningLaws.{Going, begins, room, ends, goes-here, fits-here, goes-further}
+use Rattle.checker.proofs.RunningLaws.{Going, begins, index-within, may-step, has-budget, takes-budget, stays, ends, goes-further}
 use Rattle.checker.proofs.running.run_on.Statement.{statement}
 use Rattle.checker.proofs.running.run_on.Tie as tie
 
@@ -15,29 +14,43 @@ Inv-loop code n m budget regs₀ shadows₀ mem₀ vbits₀ abits₀ reports₀ 
 abbrev μ-loop : tie.MeasureT-loop
 μ-loop code n m budget regs₀ shadows₀ mem₀ vbits₀ abits₀ reports₀ outputs₀ program places c₀ left₀ regs shadows mem vbits abits reports outputs c left = left
 
+-- the places that the answers speak of, by their names
+abbrev turned : tie.Then1 Inv-loop μ-loop → tie.After-turn Inv-loop μ-loop
+turned c = search
+
+abbrev looped : tie.After-turn Inv-loop μ-loop → tie.At-loop Inv-loop μ-loop
+looped c = search
+
+abbrev decoded : tie.At-loop Inv-loop μ-loop → tie.After-decode-all Inv-loop μ-loop
+decoded c = search
+
+abbrev start : tie.At-loop Inv-loop μ-loop → tie.Start Inv-loop μ-loop
+start c = search
+
 pub run-on-spec : {M : Type 1} → statement M
 run-on-spec =
     tie.close
     (tie.spec
     Inv-loop
     μ-loop
-    (λ c κs. c .before .before .before .before .before .before .pre .0)
-    (λ c. begins _ _ _ _ _ _ _ (c .before .before .before .before .before .before .before .pre .2))
-    (λ c. search needs)
-    (λ c. omega (arith, c .before .loop .inv .runnable .index, c .before .before .before .before .before .before .before .before .before .pre .0))
-    (λ c. omega (arith, c .before .loop .inv .runnable .index, c .before .before .before .before .before .before .before .before .before .pre .0))
     (λ c κs. search needs)
-    (λ c κs. (
-      room _ _ _ _ _ _ _ _ _ (c .before .before .before .before .before .before .before .before .before .before .before .loop .inv) (c .before .before .before .before .before .before .before .before .before .before .before .before .before .before .before .before .before .before .before .pre .0),
-      record { size = c .before .before .before .before .before .before .before .before .before .before .before .loop .inv .runnable .mem ∙ sym (c .before .before .before .before .before .before .before .before .before .before .before .loop .inv .runnable .memA); sizeV = c .before .before .before .before .before .before .before .before .before .before .before .loop .inv .runnable .memV ∙ sym (c .before .before .before .before .before .before .before .before .before .before .before .loop .inv .runnable .memA); sizeA = refl },
-      (c .before .before .before .before .before .before .before .before .before .before .before .before .before .before .before .before .before .before .before .args .n, fits-here _ _ _ _ _ _ (c .before .before .before .before .before .before .before .before .before .before .before .loop .inv) _ _ refl (c .before .before .before .before .before .before .before .before .reason-at .ensures _ (λ h. sym (c .before .before .before .before .before .before .before .before .before .before .before .before .decode-all .ensures .0 _ h)) (c .before .before .before .before .before .before .before .before .before .before .before .before .decode-all .ensures .1 _)) (c .before .before .before .before .before .before .before .if1 .left) (c .before .before .before .before .before .before .before .before .before .before .before .before .before .before .before .before .before .before .before .pre .1) _ (sym (c .before .before .before .before .before .before .before .before .before .before .before .before .decode-all .ensures .0 _ ((goes-here _ _ _ _ _ _ (c .before .before .before .before .before .before .before .before .before .before .before .loop .inv) _ _ refl (c .before .before .before .before .before .before .before .before .reason-at .ensures _ (λ h. sym (c .before .before .before .before .before .before .before .before .before .before .before .before .decode-all .ensures .0 _ h)) (c .before .before .before .before .before .before .before .before .before .before .before .before .decode-all .ensures .1 _)) (c .before .before .before .before .before .before .before .if1 .left)) .before-end)))),
-    ))
-    (λ c. (goes-here _ _ _ _ _ _ (c .before .before .before .before .before .before .before .before .before .before .before .before .before .before .before .before .before .before .before .before .before .before .loop .inv) _ _ refl (c .before .before .before .before .before .before .before .before .before .before .before .before .before .before .before .before .before .before .before .reason-at .ensures _ (λ h. sym (c .before .before .before .before .before .before .before .before .before .before .before .before .before .before .before .before .before .before .before .before .before .before .before .decode-all .ensures .0 _ h)) (c .before .before .before .before .before .before .before .before .before .before .before .before .before .before .before .before .before .before .before .before .before .before .before .decode-all .ensures .1 _)) (c .before .before .before .before .before .before .before .before .before .before .before .before .before .before .before .before .before .before .if1 .left)) .has-budget)
-    (λ c. omega (arith, (goes-here _ _ _ _ _ _ (c .before .before .before .before .before .before .before .before .before .before .before .before .before .before .before .before .before .before .before .before .before .before .loop .inv) _ _ refl (c .before .before .before .before .before .before .before .before .before .before .before .before .before .before .before .before .before .before .before .reason-at .ensures _ (λ h. sym (c .before .before .before .before .before .before .before .before .before .before .before .before .before .before .before .before .before .before .before .before .before .before .before .decode-all .ensures .0 _ h)) (c .before .before .before .before .before .before .before .before .before .before .before .before .before .before .before .before .before .before .before .before .before .before .before .decode-all .ensures .1 _)) (c .before .before .before .before .before .before .before .before .before .before .before .before .before .before .before .before .before .before .if1 .left)) .has-budget))
-    (λ c. goes-further _ _ _ _ _ _ (c .before .before .before .before .before .before .before .before .before .before .before .before .before .before .before .before .before .before .before .before .before .before .loop .inv) _ _ refl (c .before .before .before .before .before .before .before .before .before .before .before .before .before .before .before .before .before .before .before .reason-at .ensures _ (λ h. sym (c .before .before .before .before .before .before .before .before .before .before .before .before .before .before .before .before .before .before .before .before .before .before .before .decode-all .ensures .0 _ h)) (c .before .before .before .before .before .before .before .before .before .before .before .before .before .before .before .before .before .before .before .before .before .before .before .decode-all .ensures .1 _)) (c .before .before .before .before .before .before .before .before .before .before .before .before .before .before .before .before .before .before .if1 .left) (c .before .before .before .before .before .before .before .before .before .before .before .before .before .before .before .before .before .before .before .before .before .before .before .before .before .before .before .before .before .before .pre .1) _ (sym (c .before .before .before .before .before .before .before .before .before .before .before .before .before .before .before .before .before .before .before .before .before .before .before .decode-all .ensures .0 _ ((goes-here _ _ _ _ _ _ (c .before .before .before .before .before .before .before .before .before .before .before .before .before .before .before .before .before .before .before .before .before .before .loop .inv) _ _ refl (c .before .before .before .before .before .before .before .before .before .before .before .before .before .before .before .before .before .before .before .reason-at .ensures _ (λ h. sym (c .before .before .before .before .before .before .before .before .before .before .before .before .before .before .before .before .before .before .before .before .before .before .before .decode-all .ensures .0 _ h)) (c .before .before .before .before .before .before .before .before .before .before .before .before .before .before .before .before .before .before .before .before .before .before .before .decode-all .ensures .1 _)) (c .before .before .before .before .before .before .before .before .before .before .before .before .before .before .before .before .before .before .if1 .left)) .before-end))) _ (c .before .before .before .before .before .before .before .before .before .before .step .ensures))
-    (λ c. c .before .before .before .before .loop .inv .runnable .mem ∙ sym (c .before .before .before .before .before .before .before .before .before .before .before .before .pre .2 .runnable .mem))
-    (λ c. c .before .before .before .before .loop .inv .runnable .memV ∙ sym (c .before .before .before .before .before .before .before .before .before .before .before .before .pre .2 .runnable .memV))
-    (λ c. c .before .before .before .before .loop .inv .runnable .memA ∙ sym (c .before .before .before .before .before .before .before .before .before .before .before .before .pre .2 .runnable .memA))
-    (λ c. c .before .before .before .before .loop .inv .reports)
-    (λ c. c .before .before .before .before .loop .inv .outputs)
-    (λ c. ends _ _ _ _ _ _ (c .before .before .before .before .loop .inv) _ _ refl (c .before .reason-at .ensures _ (λ h. sym (c .before .before .before .before .before .decode-all .ensures .0 _ h)) (c .before .before .before .before .before .decode-all .ensures .1 _)) (c .if1 .taken)))
+    (λ c. search begins)
+    (λ c. search needs)
+    (λ c. search (index-within, needs))
+    (λ c. search index-within)
+    (λ c κs. search may-step)
+    (λ c. let t : tie.After-turn Inv-loop μ-loop = search in has-budget (t .turn .ensures .0) (c .if1 .left))
+    (λ c. let t : tie.After-turn Inv-loop μ-loop = search in takes-budget (t .turn .ensures .0) (c .if1 .left))
+    (λ c.
+    let t : tie.After-turn Inv-loop μ-loop = search in
+    let l = looped t in
+    goes-further (l .loop .inv) (decoded l .decode-all .ensures) refl (t .turn .ensures .0) (t .turn .ensures .1) (c .if1 .left) (start l .pre .1))
+    (λ c. let t = turned c in let l = looped t in stays (l .loop .inv) (decoded l .decode-all .ensures) refl (t .turn .ensures .0) (t .turn .ensures .1) (c .if1 .taken) .mem)
+    (λ c. let t = turned c in let l = looped t in stays (l .loop .inv) (decoded l .decode-all .ensures) refl (t .turn .ensures .0) (t .turn .ensures .1) (c .if1 .taken) .memV)
+    (λ c. let t = turned c in let l = looped t in stays (l .loop .inv) (decoded l .decode-all .ensures) refl (t .turn .ensures .0) (t .turn .ensures .1) (c .if1 .taken) .memA)
+    (λ c. let t = turned c in let l = looped t in stays (l .loop .inv) (decoded l .decode-all .ensures) refl (t .turn .ensures .0) (t .turn .ensures .1) (c .if1 .taken) .reports)
+    (λ c. let t = turned c in let l = looped t in stays (l .loop .inv) (decoded l .decode-all .ensures) refl (t .turn .ensures .0) (t .turn .ensures .1) (c .if1 .taken) .outputs)
+    (λ c.
+    let t = turned c in
+    let l = looped t in
+    ends (l .loop .inv) (decoded l .decode-all .ensures) refl (t .turn .ensures .0) (t .turn .ensures .1) (c .if1 .taken)))

@@ -1,5 +1,4 @@
 use borrow.Author.Needs.{needs}
-use Prim.Native.Nat.{_-_}
 use Rattle.checker.proofs.GroupLaws.{move-law}
 use Rattle.checker.proofs.step.copy.Statement.{statement}
 use Rattle.checker.proofs.step.copy.Tie as tie
@@ -14,4 +13,4 @@ copy-spec =
     (λ c κs. search needs)
     (λ c κs. search needs)
     (λ c κs. search needs)
-    (λ c. move-law _ _ (c .next .ensures) _ _ _ _ _ _ _ _ _ _ (c .before .set-register .ensures .0) (c .before .set-register .ensures .1) (c .before .before .before .before .before .before .before .before .operand .ensures) (c .before .before .before .before .before .operand-v .ensures) (c .before .before .before .before .before .before .before .mov .ensures) (c .before .before .before .before .mov2 .ensures)))
+    (λ c. search move-law))

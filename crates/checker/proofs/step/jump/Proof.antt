@@ -1,6 +1,5 @@
 use borrow.Author.Needs.{needs}
-use Prim.Native.Nat.{_-_}
-use Rattle.checker.proofs.StepLaws.{room-next}
+use Rattle.checker.proofs.StepLaws.{room-kept}
 use Rattle.checker.proofs.GroupLaws.{falls-through, jumps}
 use Rattle.checker.proofs.step.jump.Statement.{statement}
 use Rattle.checker.proofs.step.jump.Tie as tie
@@ -12,9 +11,9 @@ jump-spec =
     (λ c κs. search needs)
     (λ c. search needs)
     (λ c. search needs)
-    (λ c κs. room-next _ _ _ _ _ (c .before .before .before .before .before .use-register .ensures .0) (c .before .before .before .before .before .before .before .before .before .pre .0))
+    (λ c κs. search room-kept)
     (λ c. search needs)
-    (λ c. falls-through _ _ _ _ _ _ _ _ _ (c .before .before .before .before .before .before .use-register .ensures .1) _ (c .before .before .before .before .before .before .use-register .ensures .0) (c .before .if1 .taken) (c .next .ensures))
-    (λ c κs. room-next _ _ _ _ _ (c .before .before .before .before .before .use-register .ensures .0) (c .before .before .before .before .before .before .before .before .before .pre .0) .1)
+    (λ c. search falls-through)
+    (λ c κs. search room-kept)
     (λ c. search needs)
-    (λ c. jumps _ _ _ _ _ _ _ _ _ (c .before .before .before .before .before .before .use-register .ensures .1) _ (c .before .before .before .before .before .before .use-register .ensures .0) (c .before .if1 .left) (c .go-to .ensures)))
+    (λ c. search jumps))

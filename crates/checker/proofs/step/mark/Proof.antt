@@ -1,5 +1,4 @@
 use borrow.Author.Needs.{needs}
-use Prim.Native.Nat.{_-_}
 use Rattle.checker.proofs.GroupLaws.{mark-law}
 use Rattle.checker.proofs.step.mark.Statement.{statement}
 use Rattle.checker.proofs.step.mark.Tie as tie
@@ -14,4 +13,4 @@ mark-spec =
     (λ c κs. search needs)
     (λ c. search needs)
     (λ c. search needs)
-    (λ c. mark-law _ _ _ _ _ _ _ _ _ _ (c .next .ensures) (c .before .before .before .before .before .mark-of .ensures) (c .before .before .before .before .before .before .before .before .fill .ensures) (c .before .before .before .fill2 .ensures)))
+    (λ c. search mark-law))
