@@ -2,7 +2,6 @@
 use Prim.Native.Nat.{ℕ}
 use mathlib.Core.Path.{_≡_, sym, ap, _∙_, subst}
 use mathlib.Core.List.{List, [], _∷_}
-use Rattle.rules.specs.declared.Data.{Data}
 use Rattle.machine.specs.Machine.{World, programOf}
 use Rattle.machine.specs.Lists.{outputPlaces}
 use Rattle.machine.specs.Bare.{bareBegun}
@@ -11,39 +10,67 @@ use Rattle.soundness.specs.Series.{startedWith, checkerAfter, acceptedBudgets, 
 use Rattle.soundness.specs.Claim.{Claim, Demand3}
 use Rattle.soundness.proofs.Theorem.{demand-3}
 use Rattle.checker.specs.declared.State.{State}
-use Rattle.checker.specs.declared.Began.{Began}
-use Rattle.checker.specs.declared.Ran.{Ran}
-use Rattle.checker.specs.Views.{dataWords, worldOf}
-use Rattle.assured.specs.Assured.{Held, heldWorld, BeginCall, RunCall, RunCalls, Assured}
+use Rattle.checker.specs.Views.{worldOf}
+use Rattle.assured.specs.Assured.{Interface, RunCalls, Assured}
+use Rattle.assured.specs.Library as lib
+use Rattle.assured.specs.ForC as c
 
--- after a beginning
-begun-world : (s : List ℕ) (regs : List Data) (mem memV memA : List ℕ) (b : Began) (h : Held) → BeginCall s regs mem memV memA b h
-    → heldWorld h ≡ startedWith (h .reports) (h .outputs) (beginAnswer s (dataWords regs) mem memV memA)
-begun-world s regs mem memV memA b h call =
-    ap (λ (x : State). worldOf x (h .mem) (h .vbits) (h .abits) (h .reports) (h .outputs)) (call .goes-on)
-    ∙ ap (startedWith (h .reports) (h .outputs)) (call .contract)
+-- ---- for any two calls: what each leaves is what the answers of the crate `machine` leave
+pub record Answers (calls : Interface) : Type 1 where
+  pub begins : (s regs mem memV memA : List ℕ) (number : ℕ) (h : calls .Held) → calls .Begins s regs mem memV memA number h
+      → (beginAnswer s regs mem memV memA .refusal .number ≡ number)
+      × (calls .world h ≡ startedWith (calls .world h .reportList) (calls .world h .outputList) (beginAnswer s regs mem memV memA))
+  pub runs : (s : List ℕ) (h : calls .Held) (budget : ℕ) (h′ : calls .Held) → calls .Runs s h budget h′ → calls .world h′ ≡ runAnswer s (calls .world h) budget .world
 
--- after a run
-run-world : (s : List ℕ) (h : Held) (budget : ℕ) (r : Ran) (h′ : Held) → RunCall s h budget r h′ → heldWorld h′ ≡ runAnswer s (heldWorld h) budget .world
-run-world s h budget r h′ call =
-    ap (λ (x : State). worldOf x (h′ .mem) (h′ .vbits) (h′ .abits) (h′ .reports) (h′ .outputs)) (call .goes-on)
-    ∙ ap (λ (x : RunAnswer). x .world) (call .contract)
+module _ (calls : Interface) (answers : Answers calls) where
+  -- after any number of runs
+  calls-after : (s : List ℕ) (h : calls .Held) (budgets : List ℕ) (h′ : calls .Held) → RunCalls calls s h budgets h′
+      → calls .world h′ ≡ checkerAfter s (calls .world h) budgets
+  unfolding RunCalls checkerAfter
+  calls-after s h [] h′ e = sym (ap (calls .world) e)
+  calls-after s h (budget ∷ budgets) h′ made =
+      calls-after s (made .0) budgets h′ (made .2)
+      ∙ ap (λ (w : World). checkerAfter s w budgets) (answers .runs s h budget (made .0) (made .1))
 
--- after any number of runs
-pub calls-after : (s : List ℕ) (h : Held) (budgets : List ℕ) (h′ : Held) → RunCalls s h budgets h′ → heldWorld h′ ≡ checkerAfter s (heldWorld h) budgets
-unfolding RunCalls checkerAfter
-calls-after s h [] h′ e = sym (ap heldWorld e)
-calls-after s h (budget ∷ budgets) h′ calls =
-    let next : Held = calls .1 in
-    calls-after s next budgets h′ (calls .3) ∙ ap (λ (w : World). checkerAfter s w budgets) (run-world s h budget (calls .0) next (calls .2))
+  pub assured-by : Assured calls
+  unfolding Assured Demand3
+  assured-by s b regs mem memV memA hr hm h call regs′ mem′ hr′ hm′ frame budgets h′ made =
+      let begun = answers .begins s regs mem memV memA 0 h call in
+      let reports = calls .world h .reportList in
+      let outputs = calls .world h .outputList in
+      let places = outputPlaces outputs in
+      let bare = bareBegun s regs′ mem′ in
+      let claim = demand-3 s b regs mem memV memA hr hm (begun .0) regs′ mem′ hr′ hm′ frame reports outputs budgets in
+      subst (λ (w : World). Claim s places w (bareAfter (programOf s) places bare (acceptedBudgets s (calls .world h) budgets))) (sym (calls-after s h budgets h′ made))
+      (subst (λ (w : World). Claim s places (checkerAfter s w budgets) (bareAfter (programOf s) places bare (acceptedBudgets s w budgets))) (sym (begun .1)) claim)
 
-pub assured : Assured
-unfolding Assured Demand3
-assured s b regs mem memV memA hr hm began h call e regs′ mem′ hr′ hm′ frame budgets h′ calls =
-    let accepted : beginAnswer s (dataWords regs) mem memV memA .refusal .number ≡ 0 = ap (λ (x : BeginAnswer). x .refusal .number) (sym (call .contract)) ∙ e in
-    let places = outputPlaces (h .outputs) in
-    let bare = bareBegun s regs′ mem′ in
-    let start = begun-world s regs mem memV memA began h call in
-    let claim = demand-3 s b (dataWords regs) mem memV memA hr hm accepted regs′ mem′ hr′ hm′ frame (h .reports) (h .outputs) budgets in
-    subst (λ (w : World). Claim s places w (bareAfter (programOf s) places bare (acceptedBudgets s (heldWorld h) budgets))) (sym (calls-after s h budgets h′ calls))
-    (subst (λ (w : World). Claim s places (checkerAfter s w budgets) (bareAfter (programOf s) places bare (acceptedBudgets s w budgets))) (sym start) claim)
+-- ---- the calls of the crate `checker`
+answers-of-library : Answers lib.library
+answers-of-library =
+    record {
+      begins = λ s regs mem memV memA number h call.
+          let answered = call .contract ∙ ap (λ (x : List ℕ). beginAnswer s x mem memV memA) (call .values) in (
+            ap (λ (x : BeginAnswer). x .refusal .number) (sym answered) ∙ call .told,
+            ap (λ (x : State). worldOf x (h .mem) (h .vbits) (h .abits) (h .reports) (h .outputs)) (call .goes-on) ∙ ap (startedWith (h .reports) (h .outputs)) answered,
+          );
+      runs = λ s h budget h′ call.
+          ap (λ (x : State). worldOf x (h′ .mem) (h′ .vbits) (h′ .abits) (h′ .reports) (h′ .outputs)) (call .goes-on)
+          ∙ ap (λ (x : RunAnswer). x .world) (call .contract);
+    }
+
+pub assured : Assured lib.library
+assured = assured-by lib.library answers-of-library
+
+-- ---- the calls for C
+answers-for-c : Answers c.forC
+answers-for-c =
+    record {
+      begins = λ s regs mem memV memA number h call. (
+        ap (λ (x : BeginAnswer). x .refusal .number) (sym (call .contract)),
+        ap (startedWith (h .reports) (h .outputs)) (call .contract),
+      );
+      runs = λ s h budget h′ call. ap (λ (x : RunAnswer). x .world) (call .contract);
+    }
+
+pub assured-for-c : Assured c.forC
+assured-for-c = assured-by c.forC answers-for-c
