@@ -11,20 +11,20 @@ use Rattle.soundness.specs.Claim.{Claim, Demand3}
 use Rattle.soundness.proofs.Theorem.{demand-3}
 use Rattle.checker.specs.declared.State.{State}
 use Rattle.checker.specs.Views.{worldOf}
-use Rattle.assured.specs.Assured.{Interface, RunCalls, Assured}
+use Rattle.assured.specs.Assured.{Held, Interface, RunCalls, Assured}
 use Rattle.assured.specs.Library as lib
 use Rattle.assured.specs.ForC as c
 
 -- ---- for any two calls: what each leaves is what the answers of the crate `machine` leave
 pub record Answers (calls : Interface) : Type 1 where
-  pub begins : (s regs mem memV memA : List ℕ) (number : ℕ) (h : calls .Held) → calls .Begins s regs mem memV memA number h
+  pub begins : (s regs mem memV memA : List ℕ) (number : ℕ) (h : Held (calls .State)) → calls .Begins s regs mem memV memA number h
       → (beginAnswer s regs mem memV memA .refusal .number ≡ number)
       × (calls .world h ≡ startedWith (calls .world h .reportList) (calls .world h .outputList) (beginAnswer s regs mem memV memA))
-  pub runs : (s : List ℕ) (h : calls .Held) (budget : ℕ) (h′ : calls .Held) → calls .Runs s h budget h′ → calls .world h′ ≡ runAnswer s (calls .world h) budget .world
+  pub runs : (s : List ℕ) (h : Held (calls .State)) (budget : ℕ) (h′ : Held (calls .State)) → calls .Runs s h budget h′ → calls .world h′ ≡ runAnswer s (calls .world h) budget .world
 
 module _ (calls : Interface) (answers : Answers calls) where
   -- after any number of runs
-  calls-after : (s : List ℕ) (h : calls .Held) (budgets : List ℕ) (h′ : calls .Held) → RunCalls calls s h budgets h′
+  calls-after : (s : List ℕ) (h : Held (calls .State)) (budgets : List ℕ) (h′ : Held (calls .State)) → RunCalls calls s h budgets h′
       → calls .world h′ ≡ checkerAfter s (calls .world h) budgets
   unfolding RunCalls checkerAfter
   calls-after s h [] h′ e = sym (ap (calls .world) e)

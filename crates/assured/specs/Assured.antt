@@ -14,29 +14,38 @@ use Rattle.machine.specs.Bare.{bareBegun}
 use Rattle.soundness.specs.Series.{acceptedBudgets, bareAfter}
 use Rattle.soundness.specs.Claim.{Claim}
 
+-- what a caller has in hand between two calls: a state, in the form that the calls give it, and the contents of buffers and lists
+pub record Held (State : Type 0) : Type 0 where
+  pub state : State
+  pub mem : List ℕ
+  pub vbits : List ℕ
+  pub abits : List ℕ
+  pub reports : List ℕ
+  pub outputs : List ℕ
+
 -- two calls, beginning and running, by what their contracts say
 pub record Interface : Type 1 where
-  -- what a caller has in hand between two calls: a state, buffers and lists, which are the machine's
-  pub Held : Type 0
-  pub world : Held → World
+  pub State : Type 0
+  -- what is in hand, as the machine's
+  pub world : Held State → World
   -- beginning, given an image, register values and three buffers, answered a refusal's number or 0 and left this in hand
-  pub Begins : (s regs mem memV memA : List ℕ) (number : ℕ) → Held → Type 0
+  pub Begins : (s regs mem memV memA : List ℕ) (number : ℕ) → Held State → Type 0
   -- a run, given an image, what is in hand and a budget, left that in hand
-  pub Runs : List ℕ → Held → (budget : ℕ) → Held → Type 0
+  pub Runs : List ℕ → Held State → (budget : ℕ) → Held State → Type 0
 
 -- runs with these budgets, accepted or refused, lead from h to h′
-unfoldable pub RunCalls : (calls : Interface) → List ℕ → calls .Held → List ℕ → calls .Held → Type 0
+unfoldable pub RunCalls : (calls : Interface) → List ℕ → Held (calls .State) → List ℕ → Held (calls .State) → Type 0
 RunCalls calls s h [] h′ = h ≡ h′
-RunCalls calls s h (budget ∷ budgets) h′ = (next : calls .Held) × calls .Runs s h budget next × RunCalls calls s next budgets h′
+RunCalls calls s h (budget ∷ budgets) h′ = (next : Held (calls .State)) × calls .Runs s h budget next × RunCalls calls s next budgets h′
 
 -- after an accepted beginning and any such runs the claim holds of what is in hand, and of the bare machine with leftovers of its own
 unfoldable pub Assured : Interface → Type 0
 Assured calls =
     (s : List ℕ) → Bytes s
     → (regs mem memV memA : List ℕ) → Registers regs → Bytes mem
-    → (h : calls .Held) → calls .Begins s regs mem memV memA 0 h
+    → (h : Held (calls .State)) → calls .Begins s regs mem memV memA 0 h
     → (regs′ mem′ : List ℕ) → Registers regs′ → Memory (fieldM s) mem′
     → getD regs′ 15 0 ≡ getD regs 15 0
-    → (budgets : List ℕ) (h′ : calls .Held) → RunCalls calls s h budgets h′
+    → (budgets : List ℕ) (h′ : Held (calls .State)) → RunCalls calls s h budgets h′
     → let places = outputPlaces (calls .world h .outputList) in
     Claim s places (calls .world h′) (bareAfter (programOf s) places (bareBegun s regs′ mem′) (acceptedBudgets s (calls .world h) budgets))

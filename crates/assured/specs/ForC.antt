@@ -5,25 +5,16 @@ use mathlib.Core.List.{List}
 use Rattle.machine.specs.Machine.{World}
 use Rattle.capi.specs.Words.{worldIn}
 use Rattle.capi.specs.Promises.{BeginPromise, RunPromise}
-use Rattle.assured.specs.Assured.{Interface}
+use Rattle.assured.specs.Assured.{Held, Interface}
 
--- the contents of the buffers and lists
-pub record Buffers : Type 0 where
-  pub state : List ℕ
-  pub mem : List ℕ
-  pub vbits : List ℕ
-  pub abits : List ℕ
-  pub reports : List ℕ
-  pub outputs : List ℕ
+abbrev pub heldWorld : Held (List ℕ) → World
+heldWorld h = worldIn (h .state) (h .mem) (h .vbits) (h .abits) (h .reports) (h .outputs)
 
-abbrev pub buffersWorld : Buffers → World
-buffersWorld h = worldIn (h .state) (h .mem) (h .vbits) (h .abits) (h .reports) (h .outputs)
-
-pub record BeginCall (s regs mem memV memA : List ℕ) (number : ℕ) (h : Buffers) : Type 0 where
+pub record BeginCall (s regs mem memV memA : List ℕ) (number : ℕ) (h : Held (List ℕ)) : Type 0 where
   pub fault : ℕ
   pub contract : BeginPromise s regs mem memV memA number (h .mem) (h .vbits) (h .abits) (h .state) fault
 
-pub record RunCall (s : List ℕ) (h : Buffers) (budget : ℕ) (h′ : Buffers) : Type 0 where
+pub record RunCall (s : List ℕ) (h : Held (List ℕ)) (budget : ℕ) (h′ : Held (List ℕ)) : Type 0 where
   pub number : ℕ
   pub reason : ℕ
   pub fault : ℕ
@@ -32,4 +23,4 @@ pub record RunCall (s : List ℕ) (h : Buffers) (budget : ℕ) (h′ : Buffers) 
       (h′ .state) (h′ .mem) (h′ .vbits) (h′ .abits) (h′ .reports) (h′ .outputs) reason fault
 
 abbrev pub forC : Interface
-forC = record { Held = Buffers; world = buffersWorld; Begins = BeginCall; Runs = RunCall }
+forC = record { State = List ℕ; world = heldWorld; Begins = BeginCall; Runs = RunCall }

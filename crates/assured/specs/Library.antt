@@ -9,21 +9,13 @@ use Rattle.checker.specs.declared.Began.{Began}
 use Rattle.checker.specs.declared.Ran.{Ran}
 use Rattle.checker.specs.Views.{dataWords, worldOf}
 use Rattle.checker.specs.Promises.{BeginPromise, RunPromise}
-use Rattle.assured.specs.Assured.{Interface}
+use Rattle.assured.specs.Assured.{Held, Interface}
 
-pub record Held : Type 0 where
-  pub state : State
-  pub mem : List ℕ
-  pub vbits : List ℕ
-  pub abits : List ℕ
-  pub reports : List ℕ
-  pub outputs : List ℕ
-
-abbrev pub heldWorld : Held → World
+abbrev pub heldWorld : Held State → World
 heldWorld h = worldOf (h .state) (h .mem) (h .vbits) (h .abits) (h .reports) (h .outputs)
 
 -- `begin` was given registers with these values; the state that goes on is the one that it answered
-pub record BeginCall (s regs mem memV memA : List ℕ) (number : ℕ) (h : Held) : Type 0 where
+pub record BeginCall (s regs mem memV memA : List ℕ) (number : ℕ) (h : Held State) : Type 0 where
   pub given : List Data
   pub values : dataWords given ≡ regs
   pub answer : Began
@@ -32,11 +24,11 @@ pub record BeginCall (s regs mem memV memA : List ℕ) (number : ℕ) (h : Held)
   pub goes-on : h .state ≡ answer .state
 
 -- `run`, likewise
-pub record RunCall (s : List ℕ) (h : Held) (budget : ℕ) (h′ : Held) : Type 0 where
+pub record RunCall (s : List ℕ) (h : Held State) (budget : ℕ) (h′ : Held State) : Type 0 where
   pub answer : Ran
   pub contract :
       RunPromise s (h .state) (h .mem) (h .vbits) (h .abits) (h .reports) (h .outputs) budget answer (h′ .mem) (h′ .vbits) (h′ .abits) (h′ .reports) (h′ .outputs)
   pub goes-on : h′ .state ≡ answer .state
 
 abbrev pub library : Interface
-library = record { Held = Held; world = heldWorld; Begins = BeginCall; Runs = RunCall }
+library = record { State = State; world = heldWorld; Begins = BeginCall; Runs = RunCall }
