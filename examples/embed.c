@@ -4,10 +4,11 @@
 
 #include "../include/uviktalik.h"
 
-enum { LARGEST = 8608, MEMORY = 4096, REPORTS = 256, OUTPUTS = 512, BUDGET = 1000000 };
-
-static uint8_t image[LARGEST + 1], mem[MEMORY], vbits[MEMORY], abits[MEMORY];
-static uint32_t reports[REPORTS], outputs[OUTPUTS], state[UVIKTALIK_STATE];
+/* One byte more than the largest image has: whatever is longer is refused as well. */
+static uint8_t image[UVIKTALIK_MAX_IMAGE + 1];
+static uint8_t mem[UVIKTALIK_MAX_MEMORY], vbits[UVIKTALIK_MAX_MEMORY], abits[UVIKTALIK_MAX_MEMORY];
+static uint32_t reports[UVIKTALIK_MAX_REPORT_LIST], outputs[UVIKTALIK_MAX_OUTPUT_LIST];
+static uint32_t state[UVIKTALIK_STATE_WORDS];
 
 static int refused(unsigned number, size_t fault)
 {
@@ -15,28 +16,45 @@ static int refused(unsigned number, size_t fault)
     return 0;
 }
 
+static void print_reports(void)
+{
+    const uint32_t *entry = reports, *end = reports + UVIKTALIK_MAX_REPORT_LIST;
+    uint32_t left = state[UVIKTALIK_STATE_REPORTS];
+    for (; left > 0 && entry < end; left--, entry += UVIKTALIK_REPORT_WORDS)
+        printf("step %u at %u kind %u detail %u\n", entry[UVIKTALIK_REPORT_STEPS],
+               entry[UVIKTALIK_REPORT_INDEX], entry[UVIKTALIK_REPORT_KIND],
+               entry[UVIKTALIK_REPORT_DETAIL]);
+}
+
+static void print_outputs(void)
+{
+    const uint32_t *entry = outputs;
+    uint32_t left = state[UVIKTALIK_STATE_OUTPUTS];
+    for (; left > 0; left--, entry += UVIKTALIK_OUTPUT_WORDS)
+        printf("out port %u value %u\n", entry[UVIKTALIK_OUTPUT_PORT],
+               entry[UVIKTALIK_OUTPUT_VALUE]);
+}
+
 int main(void)
 {
-    size_t size = fread(image, 1, sizeof image, stdin), code[2], fault, m, k;
-    uint32_t header[4], regs[16] = {0};
+    size_t size = fread(image, 1, sizeof image, stdin), code[2], fault, m;
+    uint32_t header[UVIKTALIK_HEADER_WORDS], regs[UVIKTALIK_REGISTERS] = {0};
     uint8_t number = uviktalik_read(image, size, header, code, &fault), reason;
-    if (number != 0)
+    if (number != UVIKTALIK_ACCEPTED)
         return refused(number, fault);
-    m = header[0];
-    regs[15] = header[0];
+    m = header[UVIKTALIK_HEADER_M];
+    regs[UVIKTALIK_FRAME_REGISTER] = header[UVIKTALIK_HEADER_M];
     number = uviktalik_begin(image, size, regs, mem, m, vbits, m, abits, m, state, &fault);
-    if (number != 0)
+    if (number != UVIKTALIK_ACCEPTED)
         return refused(number, fault);
-    number = uviktalik_run(image, size, state, mem, m, vbits, m, abits, m, reports, REPORTS,
-                           outputs, OUTPUTS, BUDGET, &reason, &fault);
-    if (number != 0)
+    number = uviktalik_run(image, size, state, mem, m, vbits, m, abits, m, reports,
+                           UVIKTALIK_MAX_REPORT_LIST, outputs, UVIKTALIK_MAX_OUTPUT_LIST,
+                           UVIKTALIK_MAX_STEPS, &reason, &fault);
+    if (number != UVIKTALIK_ACCEPTED)
         return refused(number, fault);
-    for (k = 0; k < state[UVIKTALIK_REPORTS] && k < REPORTS / 4; k++)
-        printf("step %u at %u kind %u detail %u\n", reports[4 * k], reports[4 * k + 1],
-               reports[4 * k + 2], reports[4 * k + 3]);
-    for (k = 0; k < state[UVIKTALIK_OUTPUTS]; k++)
-        printf("out port %u value %u\n", outputs[2 * k], outputs[2 * k + 1]);
-    printf("end %u steps %u reports %u outputs %u\n", reason, state[UVIKTALIK_STEPS],
-           state[UVIKTALIK_REPORTS], state[UVIKTALIK_OUTPUTS]);
+    print_reports();
+    print_outputs();
+    printf("end %u steps %u reports %u outputs %u\n", reason, state[UVIKTALIK_STATE_STEPS],
+           state[UVIKTALIK_STATE_REPORTS], state[UVIKTALIK_STATE_OUTPUTS]);
     return 0;
 }

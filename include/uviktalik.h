@@ -1,30 +1,36 @@
 /*
- * The checker's calls for C and whatever speaks C's calling convention. `rt staticlib capi` proves
- * and builds them into target/staticlib/libcapi.a; they need no other library but the C library's
- * memcpy and memset.
+ * The checker's calls for C and whatever speaks C's calling convention:
  *
- * Every call takes any bytes as an image, any words as a state and buffers of any size, checks all of
- * it itself, ends, and answers as its contract in crates/capi/src/lib.rt says, for every input. What
- * the contracts take for granted is C's own part: that each pointer refers to as many elements as its
- * size says (an array parameter: to as many as are written there), that pointers are not null, not
- * even beside a size of 0, and that nothing that a call writes overlaps anything else that it is lent.
+ *   uviktalik_read   reads an image: its sizes, and where its code lies
+ *   uviktalik_begin  sets out memory, V bits, A bits and a state as the image says
+ *   uviktalik_run    runs the program on from a state and reports each use of an undefined bit
  *
- * A call returns 0 if it was accepted, or the number of its refusal, the first of these that applies:
- *    1  the image has under 32 bytes
- *    2  its first four bytes are wrong
- *    3  M, N, R or D is out of its limits: 1 to 4,096, 1 to 512, 0 to 32, 0 to 4,096
- *    4  an offset or the image's length is not as computed from them
- *    5  an instruction breaks its row of the table, or has none
- *    6  a region breaks its rules
- *    7  D is not the sum of the filled regions' lengths
- *    8  memory, V or A buffer not of M bytes; report list not a multiple of 4 words or above 256;
- *       output list not a multiple of 2 words or above 512
- *    9  steps so far plus budget above 1,000,000
- *   10  an A byte above 1
- *   11  index above N, outputs above the places, or reports above twice the steps
- * The lowest index at fault is left in *fault: of the instruction (5), of the region (6), else 0. A
- * refused call leaves memory, V bits, A bits, reports and outputs as they were. Calls keep nothing
- * between them.
+ * `rt staticlib capi` proves and builds them into target/staticlib/libcapi.a. They need no other
+ * library but the C library's memcpy and memset, allocate nothing and keep nothing between calls,
+ * so threads may call at the same time, each with buffers of its own. examples/embed.c is a whole
+ * program.
+ *
+ * WHAT IS PROMISED. A call takes any bytes as an image, any words as a state, any budget, and
+ * buffers and lists of any size. It checks all of it itself, ends, and leaves every byte and word
+ * that it was lent as is said at the call below, whether it accepts or refuses. This is proved for
+ * every input; the formal statement is the contracts in crates/capi/src/lib.rt, over the
+ * definitions of crates/capi/specs/Promises.antt. What an image holds and what an instruction does
+ * are the machine's rules (document 01; crates/image/specs, crates/rules/specs,
+ * crates/machine/specs).
+ *
+ * WHAT IS ASKED, which no call can check, and without which nothing is promised:
+ *   - A pointer refers to as many elements as the size after it says, an array parameter to as many
+ *     as are written there, any other pointer to one. Sizes count elements: BYTES of image, mem,
+ *     vbits and abits, WORDS of reports and outputs (not entries, and not bytes).
+ *   - What a call writes overlaps nothing else that it is lent: no two buffers or lists share
+ *     memory, and regs is no part of the state that beginning writes.
+ *   - No pointer is null, not even beside a size of 0. As the library is built now, NULL beside a
+ *     size of 0 does what any other pointer does there: it is not followed, and the compiler was
+ *     not told that pointers are not null. The gate tries it (tests/null.c); no proof speaks of it.
+ *   - There is stack enough. As built now, and measured, not proved, a run takes 13,170 bytes below
+ *     its caller's stack pointer, beginning 674 and reading 306; 12,312 of the run's hold the
+ *     decoded program, twice. A program that binds memcpy and memset only when they are first
+ *     called needs some 3,000 bytes more for that.
  */
 #ifndef UVIKTALIK_H
 #define UVIKTALIK_H
@@ -36,59 +42,171 @@
 extern "C" {
 #endif
 
+/*
+ * The version: which parameters the calls have, which words a state, and which a list's entry. It
+ * is part of the symbols' names, so that a program that was compiled for another version does not
+ * link (undefined reference to `uviktalik_run_..') instead of writing past its buffers. The
+ * machine's rules are not in it: under the same version another library may have other limits, and
+ * more instructions, refusals, stop reasons and kinds of report. A program that loads the library
+ * while it runs asks for the symbols below by their whole names.
+ */
+#define UVIKTALIK_VERSION 1
+#define uviktalik_read uviktalik_read_1
+#define uviktalik_begin uviktalik_begin_1
+#define uviktalik_run uviktalik_run_1
+
+/* Limits. M, N, R and D are an image's sizes. */
+enum {
+    UVIKTALIK_REGISTERS = 16,
+    UVIKTALIK_FRAME_REGISTER = 15,    /* the one that is defined at a beginning */
+    UVIKTALIK_PORTS = 8,              /* output ports: 0 to 7 */
+    UVIKTALIK_MAX_MEMORY = 4096,      /* M, the bytes of memory: 1 to this */
+    UVIKTALIK_MAX_INSTRUCTIONS = 512, /* N, the instructions: 1 to this */
+    UVIKTALIK_MAX_REGIONS = 32,       /* R, the regions of memory: 0 to this */
+    UVIKTALIK_MAX_DATA = 4096,        /* D, the bytes that fill regions: 0 to this */
+    UVIKTALIK_MAX_IMAGE = 8608,       /* the bytes of an image */
+    UVIKTALIK_MAX_STEPS = 1000000,    /* the steps of all runs after a beginning */
+    UVIKTALIK_MAX_REPORT_LIST = 256,  /* the words of a report list: 64 reports */
+    UVIKTALIK_MAX_OUTPUT_LIST = 512   /* the words of an output list: 256 outputs */
+};
+
+/* The numbers that reading leaves of an image. */
+enum {
+    UVIKTALIK_HEADER_M = 0,
+    UVIKTALIK_HEADER_N = 1,
+    UVIKTALIK_HEADER_R = 2,
+    UVIKTALIK_HEADER_D = 3,
+    UVIKTALIK_HEADER_WORDS = 4 /* how many words there are */
+};
+enum {
+    UVIKTALIK_CODE_START = 0, /* where the code begins in the image */
+    UVIKTALIK_CODE_SIZE = 1   /* how many bytes it has */
+};
+
 /* The words of a state. A bit of a V word is 1 where the register's bit is undefined. */
 enum {
-    UVIKTALIK_REGS = 0,     /* 16 registers */
-    UVIKTALIK_REGS_V = 16,  /* their 16 V words */
-    UVIKTALIK_INDEX = 32,   /* the next instruction's index */
-    UVIKTALIK_STEPS = 33,   /* steps taken */
-    UVIKTALIK_OUTPUTS = 34, /* outputs made */
-    UVIKTALIK_REPORTS = 35, /* reports made */
-    UVIKTALIK_STATE = 36    /* how many words there are */
+    UVIKTALIK_STATE_REGS = 0,     /* 16 registers */
+    UVIKTALIK_STATE_REGS_V = 16,  /* their 16 V words */
+    UVIKTALIK_STATE_INDEX = 32,   /* the next instruction's index */
+    UVIKTALIK_STATE_STEPS = 33,   /* steps taken */
+    UVIKTALIK_STATE_OUTPUTS = 34, /* outputs made */
+    UVIKTALIK_STATE_REPORTS = 35, /* reports made, those without a place too */
+    UVIKTALIK_STATE_WORDS = 36    /* how many words there are */
+};
+
+/* The words of an entry of the report list. */
+enum {
+    UVIKTALIK_REPORT_STEPS = 0,  /* steps taken before the one that reports */
+    UVIKTALIK_REPORT_INDEX = 1,  /* the instruction's index */
+    UVIKTALIK_REPORT_KIND = 2,   /* one of UVIKTALIK_KIND_.. */
+    UVIKTALIK_REPORT_DETAIL = 3, /* what the kind says */
+    UVIKTALIK_REPORT_WORDS = 4   /* how many words there are */
+};
+
+/* The words of an entry of the output list. */
+enum {
+    UVIKTALIK_OUTPUT_PORT = 0,
+    UVIKTALIK_OUTPUT_VALUE = 1,
+    UVIKTALIK_OUTPUT_WORDS = 2 /* how many words there are */
+};
+
+/* The kinds of report: what was used, and what the detail is. */
+enum {
+    UVIKTALIK_KIND_UNDEFINED_ADDRESS = 1,   /* an address, by a load or store; its V word */
+    UVIKTALIK_KIND_UNDEFINED_CONDITION = 2, /* a condition, by a jump; its V word */
+    UVIKTALIK_KIND_UNADDRESSABLE_LOAD = 3,  /* an unaddressable byte; the load's address */
+    UVIKTALIK_KIND_UNADDRESSABLE_STORE = 4, /* an unaddressable byte; the store's address */
+    UVIKTALIK_KIND_UNDEFINED_OUTPUT = 5     /* an output; its V word */
+};
+
+/* Why a run ended. It looks before each step, in the order 2, 1, 4, 3; an end takes no step. */
+enum {
+    UVIKTALIK_REASON_NONE = 0,      /* the run was refused */
+    UVIKTALIK_REASON_STOPPED = 1,   /* the next instruction is STOP */
+    UVIKTALIK_REASON_PAST_END = 2,  /* the index is N, past the last instruction */
+    UVIKTALIK_REASON_NO_BUDGET = 3, /* as many steps were taken as the budget has */
+    UVIKTALIK_REASON_NO_PLACE = 4   /* the next instruction puts out, and the output list is full */
 };
 
 /*
- * Reads an image.
- *   header  M, N, R and D; zeros when refused
- *   code    where the code begins in the image, and how many bytes it has; zeros when refused
- * Refusals 1 to 7.
+ * What a call returns: 0, or the number of its refusal, the first of these that applies. *fault
+ * gets the lowest index at fault, of the instruction (5) or of the region (6), else 0.
  */
-uint8_t uviktalik_read(const uint8_t *image, size_t image_size, uint32_t header[4], size_t code[2],
-                       size_t *fault);
+enum {
+    UVIKTALIK_ACCEPTED = 0,
+    UVIKTALIK_REFUSED_TOO_SHORT = 1,       /* the image has under 32 bytes */
+    UVIKTALIK_REFUSED_WRONG_MAGIC = 2,     /* its first four bytes are not 54 55 4E 31 */
+    UVIKTALIK_REFUSED_OUT_OF_LIMITS = 3,   /* M, N, R or D is out of its limits */
+    UVIKTALIK_REFUSED_WRONG_LAYOUT = 4,    /* an offset or the length is not as computed */
+    UVIKTALIK_REFUSED_BAD_INSTRUCTION = 5, /* an instruction breaks its row, or has none */
+    UVIKTALIK_REFUSED_BAD_REGION = 6,      /* a region breaks its rules */
+    UVIKTALIK_REFUSED_WRONG_SUM = 7,       /* D is not the sum of the filled regions' lengths */
+    UVIKTALIK_REFUSED_WRONG_SIZE = 8,      /* mem, vbits or abits not of M bytes; a list not
+                                              of whole entries, or above its limit */
+    UVIKTALIK_REFUSED_TOO_MANY_STEPS = 9,  /* steps taken plus budget above UVIKTALIK_MAX_STEPS */
+    UVIKTALIK_REFUSED_WRONG_MARK = 10,     /* an A byte above 1 */
+    UVIKTALIK_REFUSED_WRONG_COUNT = 11     /* index above N, outputs above their places, or
+                                              reports above twice the steps */
+};
+
+/* UVIKTALIK_VERSION of the library that is linked or loaded. This name has no version and stays. */
+uint32_t uviktalik_version(void);
 
 /*
- * Begins a program: sets out memory, V bits and A bits as the image says.
- *   regs    the registers' values
- *   mem     M bytes of memory; a byte that the image does not fill keeps what it has
- *   vbits   M bytes: a bit is 1 where the memory's bit is undefined
- *   abits   M bytes: 1 where the byte is addressable, else 0
- *   state   gets the state: the registers' values, all undefined but register 15, and counts of 0; all
- *           zeros when refused
+ * Reads an image. Refusals 1 to 7.
+ *            accepted                                     refused
+ *   header   M, N, R and D                                zeros
+ *   code     where the code begins, how many bytes it     zeros
+ *            has: 32 and 8 N
+ *   *fault   0                                            the index at fault, or 0
+ */
+uint8_t uviktalik_read(const uint8_t *image, size_t image_size,
+                       uint32_t header[UVIKTALIK_HEADER_WORDS], size_t code[2], size_t *fault);
+
+/*
+ * Begins a program. regs are the registers' values; mem, vbits and abits have M bytes each.
  * Refusals 1 to 8.
+ *            accepted                                     refused
+ *   mem      bytes of a filled region: the image's        as it was
+ *            data; all others as they were
+ *   vbits    a bit is 1 where memory's is undefined:      as it was
+ *            0 for a filled region's bytes, else 255
+ *   abits    1 where a byte is addressable: in a          as it was
+ *            region, filled or undefined; else 0
+ *   state    the values of regs; V words of all ones,     zeros
+ *            but 0 for register 15; index and counts 0
+ *   *fault   0                                            the index at fault, or 0
  */
-uint8_t uviktalik_begin(const uint8_t *image, size_t image_size, const uint32_t regs[16],
-                        uint8_t *mem, size_t mem_size, uint8_t *vbits, size_t vbits_size,
-                        uint8_t *abits, size_t abits_size, uint32_t state[UVIKTALIK_STATE],
-                        size_t *fault);
+uint8_t uviktalik_begin(const uint8_t *image, size_t image_size,
+                        const uint32_t regs[UVIKTALIK_REGISTERS], uint8_t *mem, size_t mem_size,
+                        uint8_t *vbits, size_t vbits_size, uint8_t *abits, size_t abits_size,
+                        uint32_t state[UVIKTALIK_STATE_WORDS], size_t *fault);
 
 /*
- * Runs a program from a state, for at most so many steps. A run may be continued with what it left.
- *   state    is taken and left; as given when refused
- *   reports  four words a report: steps before it, index, kind (1 to 5), detail. Report number k, from
- *            0, goes to place k if there is one. The count in the state goes on past the places, so
- *            compare it with the list's size before you read the list; other words are left alone.
- *   outputs  two words an output: port, value. Output number k goes to place k; other words are left
- *            alone.
- *   budget   with the steps so far at most 1,000,000
- *   reason   gets the stop reason: 1 STOP, 2 past the last instruction, 3 no budget left, 4 no place
- *            for an output; 0 when refused
- * Refusals 1 to 11.
+ * Runs a program from a state, any state, until there is a reason to stop: for at most as many
+ * steps as the budget says. It may be continued from what it left. Refusals 1 to 11.
+ *            accepted                                     refused
+ *   state    after the last step: registers and V         as it was
+ *            words by the rules; index; counts gone up
+ *            by the steps, outputs and reports made
+ *   mem, vbits, abits
+ *            after the last step, by the rules; a byte    as they were
+ *            that no step wrote as it was
+ *   reports  report number k (from 0, over all runs) at   as it was
+ *            words 4 k to 4 k + 3, if the list has them;
+ *            all other words as they were. The count
+ *            goes on past the places: compare it with
+ *            the list's size before you read the list
+ *   outputs  output number k at words 2 k and 2 k + 1;    as it was
+ *            all other words as they were
+ *   *reason  why it ended, 1 to 4                         0
+ *   *fault   0                                            the index at fault, or 0
  */
-uint8_t uviktalik_run(const uint8_t *image, size_t image_size, uint32_t state[UVIKTALIK_STATE],
-                      uint8_t *mem, size_t mem_size, uint8_t *vbits, size_t vbits_size,
-                      uint8_t *abits, size_t abits_size, uint32_t *reports, size_t reports_size,
-                      uint32_t *outputs, size_t outputs_size, uint32_t budget, uint8_t *reason,
-                      size_t *fault);
+uint8_t uviktalik_run(const uint8_t *image, size_t image_size,
+                      uint32_t state[UVIKTALIK_STATE_WORDS], uint8_t *mem, size_t mem_size,
+                      uint8_t *vbits, size_t vbits_size, uint8_t *abits, size_t abits_size,
+                      uint32_t *reports, size_t reports_size, uint32_t *outputs,
+                      size_t outputs_size, uint32_t budget, uint8_t *reason, size_t *fault);
 
 #ifdef __cplusplus
 }

@@ -11,6 +11,7 @@ const STALE: u32 = 0xA5A5_A5A5;
 
 // Each declaration is that of the header; a slice passes as a pointer and a size.
 extern "C" {
+    #[link_name = "uviktalik_read_1"]
     fn uviktalik_read(
         image: *const u8,
         image_size: usize,
@@ -19,6 +20,7 @@ extern "C" {
         fault: *mut usize,
     ) -> u8;
 
+    #[link_name = "uviktalik_begin_1"]
     fn uviktalik_begin(
         image: *const u8,
         image_size: usize,
@@ -33,6 +35,7 @@ extern "C" {
         fault: *mut usize,
     ) -> u8;
 
+    #[link_name = "uviktalik_run_1"]
     fn uviktalik_run(
         image: *const u8,
         image_size: usize,

@@ -11,6 +11,10 @@ use Rattle.image.specs.declared.Header.{Header}
 use Rattle.machine.specs.Machine.{Parts, parts, Counts, World}
 use Rattle.machine.specs.Calls.{Began, Ran}
 
+-- which parameters, words of a state and words of a list's entry these are: the number at the end of the calls' names
+abbrev pub version : ℕ
+version = 1
+
 abbrev pub stateSize : ℕ
 stateSize = 36
 

@@ -1,7 +1,8 @@
 // The checker for programs in other languages: reading, beginning and running by C's calling
 // convention, on numbers and lent buffers. Nothing is asked of the caller but what the parameters'
 // types say (include/uviktalik.h), and each call promises what the call of `image` or `checker` of
-// its name does, for every input.
+// its name does, for every input. The functions' names are the symbols that a program is linked by;
+// the version ends them, so that a program for another version does not link.
 use checker::Counts;
 use checker::State;
 use checker::registers;
@@ -12,9 +13,13 @@ ghost use Prim.Native.Nat.{_+_, _≤_};
 ghost use lib.ListN.{getD};
 ghost use Rattle.image.specs.Format.{registers as registerCount, partOf};
 ghost use Rattle.machine.specs.Ranges.{written};
-ghost use Rattle.capi.specs.Words.{stateSize, codeStart};
+ghost use Rattle.capi.specs.Words.{version, stateSize, codeStart};
 ghost use Rattle.capi.specs.Pieces.{Holds};
 ghost use Rattle.capi.specs.Promises.{ReadPromise, BeginPromise, RunPromise};
+
+// The number at the end of the calls' names. It goes up when their parameters change, or the words of
+// a state, or those of a list's entry.
+const VERSION: u32 = 1;
 
 // The words of a state: 16 registers, their 16 V words, and the four counts.
 const STATE: usize = 36;
@@ -102,10 +107,18 @@ fn code_start(number: u8) -> usize
 }
 
 // ---- the calls
+// The version, for a program that loads the library while it runs. Its own name has none, and stays.
+#[no_mangle]
+pub extern "C" fn uviktalik_version() -> u32
+    ensures { λ r. ⌜ r ≡ version ⌝ }
+{
+    VERSION
+}
+
 // Reads an image: M, N, R and D to header, where the code begins and how many bytes it has to code,
 // zeros when refused; the index at fault to fault. Returns 0 or the refusal's number.
 #[no_mangle]
-pub extern "C" fn uviktalik_read(
+pub extern "C" fn uviktalik_read_1(
     image: &[u8],
     header: &mut [u32; 4],
     code: &mut [usize; 2],
@@ -125,7 +138,7 @@ pub extern "C" fn uviktalik_read(
 // Begins a program, as `checker::begin` does: the state's words to state, the index at fault to
 // fault. Returns 0 or the refusal's number.
 #[no_mangle]
-pub extern "C" fn uviktalik_begin(
+pub extern "C" fn uviktalik_begin_1(
     image: &[u8],
     regs: &[u32; 16],
     mem: &mut [u8],
@@ -148,7 +161,7 @@ pub extern "C" fn uviktalik_begin(
 // left there, the stop reason to reason, the index at fault to fault. Returns 0 or the refusal's
 // number.
 #[no_mangle]
-pub extern "C" fn uviktalik_run(
+pub extern "C" fn uviktalik_run_1(
     image: &[u8],
     state: &mut [u32; STATE],
     mem: &mut [u8],
