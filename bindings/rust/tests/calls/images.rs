@@ -1,0 +1,92 @@
+//! Stored images, whose runs are known.
+
+use uviktalik::numbers::{FRAME_REGISTER, MAX_STEPS, REGISTERS};
+use uviktalik::{Cause, Output, Refusal, Report, ReportKind, StopReason};
+
+use crate::desk::{image, registers, Desk};
+
+#[test]
+fn the_incident_is_reported_once() {
+    let mut desk = Desk::of("examples/incident");
+    assert_eq!(desk.check(MAX_STEPS), Ok(StopReason::STOPPED));
+    assert_eq!((desk.state.steps(), desk.state.reports(), desk.state.outputs()), (42, 1, 1));
+    let reports: Vec<Report> = desk.state.reports_in(&desk.reports).collect();
+    let kind = ReportKind::UNDEFINED_OUTPUT;
+    assert_eq!(reports, [Report { steps: 41, index: 20, kind, detail: u32::MAX }]);
+    assert_eq!(reports[0].to_string(), "step 41 at 20 kind 5 detail 4294967295");
+    let outputs: Vec<Output> = desk.state.outputs_in(&desk.outputs).collect();
+    assert_eq!(outputs, [Output { port: 2, value: 0 }]);
+}
+
+#[test]
+fn the_mended_program_runs_clean() {
+    let mut desk = Desk::of("examples/mended");
+    assert_eq!(desk.check(MAX_STEPS), Ok(StopReason::STOPPED));
+    assert_eq!(desk.state.reports(), 0);
+    assert_eq!(desk.state.reports_in(&desk.reports).count(), 0);
+    assert_eq!(desk.state.outputs_in(&desk.outputs).count(), 1);
+}
+
+#[test]
+fn a_run_is_continued_from_its_state() {
+    let mut whole = Desk::of("examples/incident");
+    let mut parts = Desk::of("examples/incident");
+    assert_eq!(whole.check(MAX_STEPS), Ok(StopReason::STOPPED));
+    assert_eq!(parts.check(10), Ok(StopReason::NO_BUDGET));
+    assert_eq!((parts.state.steps(), parts.state.reports()), (10, 0));
+    assert_eq!(parts.run(MAX_STEPS - 10), Ok(StopReason::STOPPED));
+    assert_eq!(parts.state, whole.state);
+    assert!(parts.reports == whole.reports && parts.outputs == whole.outputs);
+    assert!(parts.mem == whole.mem && parts.vbits == whole.vbits && parts.abits == whole.abits);
+}
+
+#[test]
+fn a_beginning_defines_the_frame_register_alone() {
+    let mut desk = Desk::of("examples/incident");
+    assert_eq!(desk.begin(), Ok(()));
+    assert_eq!(*desk.state.regs(), registers(desk.mem.len() as u32));
+    let mut undefined = [u32::MAX; REGISTERS];
+    undefined[FRAME_REGISTER] = 0;
+    assert_eq!(*desk.state.regs_v(), undefined);
+    assert_eq!(desk.state.index(), 0);
+}
+
+#[test]
+fn more_reports_are_counted_than_have_a_place() {
+    let mut desk = Desk::of("tests/many");
+    assert_eq!(desk.check(MAX_STEPS), Ok(StopReason::NO_PLACE));
+    assert_eq!(desk.state.reports(), 256);
+    assert_eq!(desk.state.reports_in(&desk.reports).count(), 64);
+    assert_eq!(desk.state.outputs_in(&desk.outputs).count(), 256);
+}
+
+#[test]
+fn the_code_is_a_part_of_the_image() {
+    let image = image("examples/incident");
+    let header = uviktalik::read(&image).expect("an accepted image");
+    assert_eq!(header.code, &image[32..32 + 8 * header.n as usize]);
+    let sizes = 32 + 8 * header.n + 12 * header.r + header.d;
+    assert_eq!(sizes as usize, image.len());
+}
+
+#[test]
+fn a_refusal_has_its_index_and_its_words() {
+    for (name, cause) in [
+        ("tests/instruction", Cause::BAD_INSTRUCTION),
+        ("tests/region", Cause::BAD_REGION),
+        ("tests/one_byte_more", Cause::WRONG_LAYOUT),
+    ] {
+        let mut desk = Desk::of(name);
+        let refusal = uviktalik::read(&desk.image).expect_err(name);
+        assert_eq!(refusal.cause, cause, "{name}");
+        let line = format!("refused {} at {}", refusal.number(), refusal.index);
+        let expected = std::fs::read_to_string(format!("../../{name}.out")).expect(name);
+        assert_eq!(line, expected.trim_end());
+        assert_eq!(refusal.to_string(), format!("{line}: {}", cause.words()));
+        assert_eq!(desk.begin(), Err(refusal), "{name}");
+        assert_eq!(desk.run(1), Err(refusal), "{name}");
+    }
+    let refusal = Refusal { cause: Cause::BAD_REGION, index: 3 };
+    assert_eq!(refusal.to_string(), "refused 6 at 3: a region breaks its rules");
+    assert_eq!(Cause(200).words(), "unknown to this binding");
+}

@@ -1,0 +1,6 @@
+//! The calls through the binding: stored images, what a call may write, sizes at their edges.
+
+mod desk;
+mod images;
+mod lent;
+mod sizes;
