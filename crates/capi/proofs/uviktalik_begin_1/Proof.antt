@@ -13,4 +13,7 @@ uviktalik-begin-1-spec =
     (λ c. search needs)
     (λ c. search needs)
     (λ c. search needs)
-    (λ c. begun-words _ _ _ _ _ _ _ _ _ (c .before .before .before .before .before .before .before .before .before .before .before .before .before .data-of .result) (c .before .before .before .before .before .before .before .before .before .begin .result) (c .before .before .before .before .before .before .before .before .before .before .before .before .before .data-of .ensures) (c .before .before .before .before .before .before .before .before .before .begin .ensures) (c .words-of .ensures)))
+    (λ c.
+    let d : tie.After-data-of = search in
+    let b : tie.After-begin = search in
+    begun-words _ _ _ _ _ _ _ _ _ (d .data-of .result) (b .begin .result) (d .data-of .ensures) (b .begin .ensures) (c .words-of .ensures)))

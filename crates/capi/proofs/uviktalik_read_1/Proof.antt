@@ -12,4 +12,7 @@ uviktalik-read-1-spec =
     (λ c. search needs)
     (λ c. search needs)
     (λ c κs. search needs)
-    (λ c. (c .before .before .before .before .before .read .ensures, rw (c .before .code-start .ensures) (ap codeRange (c .before .before .before .before .before .read .ensures)))))
+    (λ c.
+    let r : tie.After-read = search in
+    let s : tie.After-code-start = search in
+    (r .read .ensures, rw (s .code-start .ensures) (ap codeRange (r .read .ensures)))))

@@ -15,4 +15,7 @@ uviktalik-run-1-spec =
     (λ c. search needs)
     (λ c. search needs)
     (λ c. search needs)
-    (λ c. run-words _ _ _ _ _ _ _ _ _ _ _ _ _ _ (c .before .before .before .before .before .before .before .before .before .before .before .before .before .before .before .before .before .before .before .state-in .result) (c .before .before .before .before .before .before .before .before .before .before .before .before .before .run .result) (c .before .before .before .before .before .before .before .before .before .before .before .before .before .before .before .before .before .before .before .state-in .ensures) (c .before .before .before .before .before .before .before .before .before .before .before .before .before .run .ensures) (c .words-of .ensures)))
+    (λ c.
+    let g : tie.After-state-in = search in
+    let r : tie.After-run = search in
+    run-words _ _ _ _ _ _ _ _ _ _ _ _ _ _ (g .state-in .result) (r .run .result) (g .state-in .ensures) (r .run .ensures) (c .words-of .ensures)))
