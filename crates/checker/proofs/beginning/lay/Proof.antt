@@ -16,12 +16,24 @@ lay-spec =
     (tie.spec
     Inv-loop
     μ-loop
-    (λ c. none-laid _ _ _ _ _ _ (c .before .before .before .before .before .pre .0))
+    (λ c.
+    let start : tie.Start Inv-loop μ-loop = search in
+    none-laid _ _ _ _ _ _ (start .pre .0))
     (λ c κs. search needs)
-    (λ c κs. next-fits (c .before .before .before .before .before .loop .inv) (c .before .before .before .before .loop-test .taken) (c .before .before .before .region-at .ensures) (c .before .before .before .before .before .before .before .before .before .before .before .pre .1) (c .before .before .before .before .before .before .before .before .before .before .before .pre .2))
+    (λ c κs.
+    let region-at : tie.After-region-at Inv-loop μ-loop = search in
+    let loop- : tie.In-loop Inv-loop μ-loop = search in
+    let loop : tie.At-loop Inv-loop μ-loop = search in
+    let start : tie.Start Inv-loop μ-loop = search in
+    next-fits (loop .loop .inv) (loop- .loop-test .taken) (region-at .region-at .ensures) (start .pre .1) (start .pre .2))
     (λ c. search needs)
     (λ c. search needs)
-    (λ c. one-laid (c .before .before .before .before .before .before .before .before .before .before .before .before .loop .inv) (c .before .before .before .before .before .before .before .before .before .before .before .loop-test .taken) (c .before .before .before .before .before .before .before .before .before .before .region-at .ensures) (c .before .before .before .before .before .before .lay-region .ensures .0) (c .before .before .before .before .before .before .lay-region .ensures .1 .0) (c .before .before .before .before .before .before .lay-region .ensures .1 .1 .0) (c .before .before .before .before .before .before .lay-region .ensures .1 .1 .1))
+    (λ c.
+    let lay-region : tie.After-lay-region Inv-loop μ-loop = search in
+    let region-at : tie.After-region-at Inv-loop μ-loop = search in
+    let loop- : tie.In-loop Inv-loop μ-loop = search in
+    let loop : tie.At-loop Inv-loop μ-loop = search in
+    one-laid (loop .loop .inv) (loop- .loop-test .taken) (region-at .region-at .ensures) (lay-region .lay-region .ensures .0) (lay-region .lay-region .ensures .1 .0) (lay-region .lay-region .ensures .1 .1 .0) (lay-region .lay-region .ensures .1 .1 .1))
     (λ c. search needs)
     (λ c. search needs)
     (λ c. search needs)

@@ -17,10 +17,24 @@ lay-region-spec =
     (λ c κs. search needs)
     (λ c. search needs)
     (λ c. search needs)
-    (λ c. let e = not-true (isFilled (c .before .before .before .before .before .before .before .before .before .before .before .before .before .before .before .before .before .args .region)) (c .if1 .taken) in (rw e (omega arith), (rw e, (c .before .before .before .before .before .before .before .fill .ensures ∙ rw (c .before .before .before .before .before .before .before .before .before .v-of .ensures), c .before .before .before .fill2 .ensures))))
-    (λ c κs. let e = not-false (isFilled (c .before .before .before .before .before .before .before .before .before .before .before .before .before .before .before .before .before .before .args .region)) (c .before .if1 .left) in (rw e at (c .before .before .before .before .before .before .before .before .before .before .before .before .before .before .before .before .before .before .pre .2), search needs))
+    (λ c.
+    let start : tie.Start = search in
+    let v-of : tie.After-v-of = search in
+    let fill : tie.After-fill = search in
+    let fill2 : tie.After-fill2 = search in
+    let e = not-true (isFilled (start .args .region)) (c .if1 .taken) in (rw e (omega arith), (rw e, (fill .fill .ensures ∙ rw (v-of .v-of .ensures), fill2 .fill2 .ensures))))
+    (λ c κs.
+    let start : tie.Start = search in
+    let e = not-false (isFilled (start .args .region)) (c .before .if1 .left) in (rw e at (start .pre .2), search needs))
     (λ c. search needs)
     (λ c. search needs)
     (λ c. search needs)
     (λ c. search needs)
-    (λ c. let e = not-false (isFilled (c .before .before .before .before .before .before .before .before .before .before .before .before .before .before .before .before .before .before .before .before .before .args .region)) (c .before .before .before .before .if1 .left) in (rw e, (c .before .before .copy .ensures ∙ rw e, (c .before .before .before .before .before .before .before .before .before .before .before .fill .ensures ∙ rw (c .before .before .before .before .before .before .before .before .before .before .before .before .before .v-of .ensures), c .before .before .before .before .before .before .before .fill2 .ensures)))))
+    (λ c.
+    let start : tie.Start = search in
+    let v-of : tie.After-v-of = search in
+    let fill : tie.After-fill = search in
+    let fill2 : tie.After-fill2 = search in
+    let if1 : tie.Else1 = search in
+    let copy : tie.After-copy = search in
+    let e = not-false (isFilled (start .args .region)) (if1 .if1 .left) in (rw e, (copy .copy .ensures ∙ rw e, (fill .fill .ensures ∙ rw (v-of .v-of .ensures), fill2 .fill2 .ensures)))))

@@ -13,6 +13,12 @@ begin-refusal-spec =
     (λ c s e. begin-unread s _ e (c .if1 .taken) _ _ _)
     (λ c κs. search needs)
     (λ c κs. search needs)
-    (λ c s e. c .refuse .ensures ∙ begin-tests s _ e (c .before .before .before .if1 .left) _ _ _ false (sym (not-true _ (c .before .if2 .taken)) ∙ c .before .before .buffers-ok .ensures))
+    (λ c s e.
+    let buffers-ok : tie.After-buffers-ok = search in
+    let if1 : tie.Else1 = search in
+    c .refuse .ensures ∙ begin-tests s _ e (if1 .if1 .left) _ _ _ false (sym (not-true _ (c .before .if2 .taken)) ∙ buffers-ok .buffers-ok .ensures))
     (λ c κs. search needs)
-    (λ c s e. c .refuse2 .ensures ∙ begin-tests s _ e (c .before .before .before .if1 .left) _ _ _ true (sym (not-false _ (c .before .if2 .left)) ∙ c .before .before .buffers-ok .ensures)))
+    (λ c s e.
+    let buffers-ok : tie.After-buffers-ok = search in
+    let if1 : tie.Else1 = search in
+    c .refuse2 .ensures ∙ begin-tests s _ e (if1 .if1 .left) _ _ _ true (sym (not-false _ (c .before .if2 .left)) ∙ buffers-ok .buffers-ok .ensures)))
