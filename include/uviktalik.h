@@ -43,12 +43,13 @@ extern "C" {
 #endif
 
 /*
- * The version: which parameters the calls have, which words a state, and which a list's entry. It
- * is part of the symbols' names, so that a program that was compiled for another version does not
- * link (undefined reference to `uviktalik_run_..') instead of writing past its buffers. The
- * machine's rules are not in it: under the same version another library may have other limits, and
- * more instructions, refusals, stop reasons and kinds of report. A program that loads the library
- * while it runs asks for the symbols below by their whole names.
+ * The version: which parameters the calls have, which words a state and a list's entry, and what
+ * the limits are, by which programs size their buffers. It is part of the symbols' names, so that a
+ * program that was compiled for another version does not link (undefined reference to
+ * `uviktalik_run_..') instead of writing past its buffers. The machine's rules are not in it: under
+ * the same version another library may have more instructions, refusals, stop reasons and kinds of
+ * report. A program that loads the library while it runs asks for the symbols below by their whole
+ * names.
  */
 #define UVIKTALIK_VERSION 1
 #define uviktalik_read uviktalik_read_1

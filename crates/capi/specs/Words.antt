@@ -11,7 +11,7 @@ use Rattle.image.specs.declared.Header.{Header}
 use Rattle.machine.specs.Machine.{Parts, parts, Counts, World}
 use Rattle.machine.specs.Calls.{Began, Ran}
 
--- which parameters, words of a state and words of a list's entry these are: the number at the end of the calls' names
+-- which parameters, words of a state, words of a list's entry and limits these are: the number at the end of the calls' names
 abbrev pub version : ℕ
 version = 1
 

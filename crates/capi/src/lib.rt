@@ -18,7 +18,7 @@ ghost use Rattle.capi.specs.Pieces.{Holds};
 ghost use Rattle.capi.specs.Promises.{ReadPromise, BeginPromise, RunPromise};
 
 // The number at the end of the calls' names. It goes up when their parameters change, or the words of
-// a state, or those of a list's entry.
+// a state, or those of a list's entry, or a limit.
 const VERSION: u32 = 1;
 
 // The words of a state: 16 registers, their 16 V words, and the four counts.

@@ -33,11 +33,28 @@ main-spec =
     (λ c. search needs)
     (λ c κs. search needs)
     (λ c. search needs)
-    (λ c. omega (arith, small _ _ (c .before .read .ensures), c .before .before .before .before .before .before .before .before .zeros .ensures))
-    (λ c. front _ _ (omega (arith, small _ _ (c .before .before .read .ensures), c .before .before .before .before .before .before .before .before .before .zeros .ensures)))
-    (λ c. omega (arith, small _ _ (c .before .before .read .ensures), c .before .before .before .before .before .before .before .before .zeros2 .ensures))
-    (λ c. front _ _ (omega (arith, small _ _ (c .before .before .before .read .ensures), c .before .before .before .before .before .before .before .before .before .zeros2 .ensures)))
-    (λ c. omega (arith, small _ _ (c .before .before .before .read .ensures), c .before .before .before .before .before .before .before .before .zeros3 .ensures))
-    (λ c. front _ _ (omega (arith, small _ _ (c .before .before .before .before .read .ensures), c .before .before .before .before .before .before .before .before .before .zeros3 .ensures)))
+    (λ c.
+    let zeros : tie.After-zeros = search in
+    omega (arith, small _ _ (c .before .read .ensures), zeros .zeros .ensures))
+    (λ c.
+    let read : tie.After-read = search in
+    let zeros : tie.After-zeros = search in
+    front _ _ (omega (arith, small _ _ (read .read .ensures), zeros .zeros .ensures)))
+    (λ c.
+    let read : tie.After-read = search in
+    let zeros2 : tie.After-zeros2 = search in
+    omega (arith, small _ _ (read .read .ensures), zeros2 .zeros2 .ensures))
+    (λ c.
+    let read : tie.After-read = search in
+    let zeros2 : tie.After-zeros2 = search in
+    front _ _ (omega (arith, small _ _ (read .read .ensures), zeros2 .zeros2 .ensures)))
+    (λ c.
+    let read : tie.After-read = search in
+    let zeros3 : tie.After-zeros3 = search in
+    omega (arith, small _ _ (read .read .ensures), zeros3 .zeros3 .ensures))
+    (λ c.
+    let read : tie.After-read = search in
+    let zeros3 : tie.After-zeros3 = search in
+    front _ _ (omega (arith, small _ _ (read .read .ensures), zeros3 .zeros3 .ensures)))
     (λ c κs. search needs)
     (λ c. search needs))
