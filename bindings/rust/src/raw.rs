@@ -7,7 +7,8 @@ use crate::sys;
 use crate::{Buffers, Lists};
 
 // Rust sees to what the calls ask (the header, WHAT IS ASKED): a reference is not null, a slice has
-// as many elements as its size says, and what is lent as `&mut` overlaps nothing else.
+// as many elements as its size says, and what is lent as `&mut` overlaps nothing else. Stack, as for
+// any call, is the thread's affair.
 
 /// Reads an image.
 #[inline]

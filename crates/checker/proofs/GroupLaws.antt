@@ -64,9 +64,6 @@ mark-law c u addressable start size mark memV memA memV′ memA′ e v a k =
 pub loaded-register : (width : Width) (d a imm : ℕ) → FitsSome (Load width d a imm) → d < registers
 loaded-register width d a imm f = f .fitting .fits .0
 
-pub stored-register : (width : Width) (d a imm : ℕ) → FitsSome (Store width d a imm) → d < registers
-stored-register width d a imm f = f .fitting .fits .0
-
 pub accessed : (kind : ℕ) (width : Width) (a imm : ℕ) (regs memA : List ℕ) (c u : Counts) (regsV regsV′ l l₂ : List ℕ) (at : ℕ) (whole : Bool)
     → Reports (ifUndefined undefinedAddress (getD regsV a 0) ++ ifBlocked kind at (not whole)) c l u l₂ → regsV′ ≡ set regsV a 0
     → at ≡ addressOf regs a imm → whole ≡ allAddressable memA at (bytesOf width) → Accessed kind width a imm regs memA c regsV l at whole u regsV′ l₂

@@ -155,8 +155,9 @@ pub fn run_on(
     let mut left = budget;
     let reason = loop {
         let at = c.index as usize;
+        let i = program[at];
         let went = turn(
-            program[at],
+            i,
             n,
             places,
             left,

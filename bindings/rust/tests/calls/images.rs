@@ -1,7 +1,7 @@
 //! Stored images, whose runs are known.
 
 use uviktalik::numbers::{FRAME_REGISTER, MAX_STEPS, REGISTERS};
-use uviktalik::{Cause, Output, Refusal, Report, ReportKind, StopReason};
+use uviktalik::{Buffers, Cause, Output, Refusal, Report, ReportKind, StopReason};
 
 use crate::desk::{image, registers, Desk};
 
@@ -49,6 +49,24 @@ fn a_beginning_defines_the_frame_register_alone() {
     undefined[FRAME_REGISTER] = 0;
     assert_eq!(*desk.state.regs_v(), undefined);
     assert_eq!(desk.state.index(), 0);
+}
+
+/// Document 01's example: of 16 bytes of memory those from 8 to 11 are a region, of kind 2.
+#[rustfmt::skip]
+const EXAMPLE: [u32; 19] = [
+    0x314E_5554, 16, 4, 32, 1, 64, 0, 76, // M 16, four instructions, one region, no data
+    0xFF00_0001, 8, 0x0000_010E, 0, 0x0001_0012, 2, 0, 0, // MOV 0,8; LD32 1,0,0; EMIT 1,2; STOP
+    8, 4, 2, // four bytes from 8 on
+];
+
+#[test]
+fn a_beginning_sets_out_v_bits_and_a_bits() {
+    let image: Vec<u8> = EXAMPLE.iter().flat_map(|w| w.to_le_bytes()).collect();
+    let [mut mem, mut vbits, mut abits] = [(); 3].map(|()| [7; 16]);
+    let buffers = &mut Buffers { mem: &mut mem, vbits: &mut vbits, abits: &mut abits };
+    assert!(uviktalik::begin(&image, &registers(16), buffers).is_ok());
+    assert_eq!((mem, vbits), ([7; 16], [255; 16]));
+    assert_eq!(abits, [0, 0, 0, 0, 0, 0, 0, 0, 1, 1, 1, 1, 0, 0, 0, 0]);
 }
 
 #[test]

@@ -164,15 +164,18 @@ fn accepted_calls_write_inside_what_they_are_lent() {
 fn refused_calls_leave_what_they_should() {
     for name in ["tests/empty", "tests/instruction", "tests/region", "tests/one_byte_more"] {
         let mut desk = Desk::new(&image(name), 16);
+        let index = uviktalik::read(&image(name)).expect_err(name).index;
         assert_ne!(desk.run(7), ACCEPTED, "{name}");
         assert!(desk.state.all(STALE) && desk.reason.all(REASON_NONE), "{name}");
+        assert_eq!(std::mem::replace(desk.fault.one(), STALE_SIZE), index, "{name}");
         assert_ne!(desk.begin(), ACCEPTED, "{name}");
         assert!(desk.state.all(0), "{name}");
+        assert_eq!(std::mem::replace(desk.fault.one(), STALE_SIZE), index, "{name}");
         assert_ne!(desk.read(), ACCEPTED, "{name}");
         assert!(desk.header.all(0) && desk.code.all(0), "{name}");
+        assert_eq!(*desk.fault.one(), index, "{name}");
         assert!(desk.mem.all(STALE_BYTE), "{name}");
         assert!(desk.vbits.all(STALE_BYTE) && desk.abits.all(STALE_BYTE), "{name}");
         assert!(desk.reports.all(STALE) && desk.outputs.all(STALE), "{name}");
-        assert_ne!(*desk.fault.one(), STALE_SIZE, "{name}");
     }
 }
