@@ -7,7 +7,8 @@ use Rattle.machine.specs.Machine.{World}
 use Rattle.checker.specs.declared.State.{State}
 use Rattle.checker.specs.declared.Began.{Began}
 use Rattle.checker.specs.declared.Ran.{Ran}
-use Rattle.checker.specs.Views.{dataWords, worldOf}
+use Rattle.flat.specs.Registers.{dataWords}
+use Rattle.checker.specs.Views.{worldOf}
 use Rattle.checker.specs.Promises.{BeginPromise, RunPromise}
 use Rattle.assured.specs.Assured.{Held, Interface}
 

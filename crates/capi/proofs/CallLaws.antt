@@ -7,7 +7,7 @@ use Rattle.machine.specs.Calls.{beginAnswer, runAnswer}
 use Rattle.checker.specs.declared.State.{State}
 use Rattle.checker.specs.declared.Began.{Began}
 use Rattle.checker.specs.declared.Ran.{Ran}
-use Rattle.checker.specs.Views.{dataWords}
+use Rattle.flat.specs.Registers.{dataWords}
 use Rattle.checker.specs.Promises.{BeginPromise, RunPromise}
 use Rattle.capi.specs.Words.{worldIn, beganIn, ranIn}
 use Rattle.capi.specs.Pieces.{Holds}

@@ -4,7 +4,8 @@ use Prim.Native.Nat.{ℕ}
 use mathlib.Core.Path.{_≡_}
 use mathlib.Core.List.{List}
 use Rattle.checker.specs.declared.State.{State}
-use Rattle.checker.specs.Views.{dataWords, shadowWords, countsOf}
+use Rattle.flat.specs.Registers.{dataWords, shadowWords}
+use Rattle.checker.specs.Views.{countsOf}
 use Rattle.capi.specs.Words.{regsIn, regsVIn, countsIn}
 
 -- the words are those of a state of the code

@@ -5,7 +5,7 @@
 // the version ends them, so that a program for another version does not link.
 use checker::Counts;
 use checker::State;
-use checker::registers;
+use flat::registers;
 use image::format;
 use image::refusals::ACCEPTED;
 ghost use mathlib.Core.Path.{_≡_};

@@ -8,10 +8,10 @@ use borrow.Author.Needs.{read-below, read-above}
 use lib.ListN.{length, getD, set, replicate, length-replicate, length-set}
 use lib.Seq.{getD-set-same}
 use Rattle.image.specs.declared.Instruction.{Instruction}
-use Rattle.checker.specs.declared.flat.Flat.{Flat}
-use Rattle.checker.specs.declared.flat.Flat.the-variants.{Stop}
+use Rattle.flat.specs.declared.Flat.{Flat}
+use Rattle.flat.specs.declared.Flat.the-variants.{Stop}
 use Rattle.machine.specs.Machine.{Program}
-use Rattle.checker.specs.Flat.{meaning}
+use Rattle.flat.specs.Meaning.{meaning}
 use Rattle.checker.specs.Pieces.{Decodes}
 
 -- of n places the first k have their meaning

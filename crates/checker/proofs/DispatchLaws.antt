@@ -7,9 +7,9 @@ use Rattle.image.specs.declared.Instruction.{Instruction}
 use Rattle.machine.specs.Machine.{Parts, parts}
 use Rattle.machine.specs.Checker.{stepped}
 use Rattle.checker.specs.declared.Counts.{Counts}
-use Rattle.checker.specs.declared.flat.Flat.{Flat}
-use Rattle.checker.specs.declared.flat.Flat.the-variants as flat
-use Rattle.checker.specs.Flat.{meaning}
+use Rattle.flat.specs.declared.Flat.{Flat}
+use Rattle.flat.specs.declared.Flat.the-variants as flat
+use Rattle.flat.specs.Meaning.{meaning}
 use Rattle.checker.specs.Views.{world}
 use Rattle.checker.specs.Pieces.{moved, StepsRegisters, StepsParts, StepsUse, StepsOutput, StepsMarks, FitsMemory, FitsSome}
 use Rattle.checker.proofs.GroupLaws.{stop-law}

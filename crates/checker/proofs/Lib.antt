@@ -1,12 +1,10 @@
 pub mod Writing
-pub mod Filling
 pub mod RangeLaws
 pub mod StepLaws
 pub mod GroupLaws
 pub mod DispatchLaws
 pub mod DecodingLaws
 pub mod RunningLaws
-pub mod RegisterLaws
 pub mod BeginLaws
 pub mod RefusalLaws
 pub mod AnswerLaws

@@ -28,10 +28,10 @@ use Rattle.machine.proofs.CheckerLaws.{Goes, reason-goes}
 use Rattle.machine.proofs.ListLaws.{length-reports-entered, length-outputs-entered}
 use Rattle.machine.proofs.Continued.{step-runnable}
 use Rattle.checker.specs.declared.Counts.{Counts}
-use Rattle.checker.specs.declared.flat.Flat.{Flat}
-use Rattle.checker.specs.declared.flat.Flat.the-variants as flat
-use Rattle.checker.specs.Flat.{meaning}
-use Rattle.checker.proofs.flat.Flat.{the-type}
+use Rattle.flat.specs.declared.Flat.{Flat}
+use Rattle.flat.specs.declared.Flat.the-variants as flat
+use Rattle.flat.specs.Meaning.{meaning}
+use Rattle.flat.proofs.Flat.{the-type}
 use Rattle.checker.specs.Views.{world}
 use Rattle.checker.specs.Pieces.{FitsMemory, MayStep, Ready, Stands, Decodes, Reasons, Turned}
 

@@ -1,4 +1,3 @@
 pub mod Views
 pub mod Promises
-pub mod Flat
 pub mod Pieces

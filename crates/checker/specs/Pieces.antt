@@ -18,10 +18,10 @@ use Rattle.machine.specs.Checker.{stepped}
 use Rattle.machine.specs.Calls.{mostSteps}
 use Rattle.machine.specs.Allowed.{Runnable}
 use Rattle.checker.specs.declared.Counts.{Counts}
-use Rattle.checker.specs.declared.flat.Flat.{Flat}
-use Rattle.checker.specs.declared.flat.Flat.the-variants as flat
+use Rattle.flat.specs.declared.Flat.{Flat}
+use Rattle.flat.specs.declared.Flat.the-variants as flat
 use Rattle.checker.specs.Views.{world}
-use Rattle.checker.specs.Flat.{meaning}
+use Rattle.flat.specs.Meaning.{meaning}
 
 -- ---- the counts
 -- they have room for one step more

@@ -8,7 +8,8 @@ use Rattle.machine.specs.Calls.{beginAnswer, runAnswer}
 use Rattle.checker.specs.declared.State.{State}
 use Rattle.checker.specs.declared.Began.{Began}
 use Rattle.checker.specs.declared.Ran.{Ran}
-use Rattle.checker.specs.Views.{dataWords, worldOf, beganOf, ranOf}
+use Rattle.flat.specs.Registers.{dataWords}
+use Rattle.checker.specs.Views.{worldOf, beganOf, ranOf}
 
 -- r is answered, and the primed buffers are left
 abbrev pub BeginPromise : (image : List ℕ) (regs : List Data) (mem memV memA : List ℕ) → Began → (mem′ memV′ memA′ : List ℕ) → Type 0

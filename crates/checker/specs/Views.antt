@@ -1,8 +1,7 @@
 -- How the values of the code are read as the machine's: counts, registers, states, answers.
 use Prim.Native.Nat.{ℕ}
-use mathlib.Core.List.{List, map}
-use Rattle.rules.specs.declared.Data.{Data}
-use Rattle.rules.specs.declared.Shadow.{Shadow}
+use mathlib.Core.List.{List}
+use Rattle.flat.specs.Registers.{dataWords, shadowWords}
 use Rattle.machine.specs.Machine.{Parts, parts, Counts as MachineCounts, World}
 use Rattle.machine.specs.Calls.{Began as BeginAnswer, Ran as RunAnswer}
 use Rattle.checker.specs.declared.Counts.{Counts}
@@ -12,12 +11,6 @@ use Rattle.checker.specs.declared.Ran.{Ran}
 
 abbrev pub countsOf : Counts → MachineCounts
 countsOf c = record { index = c .index; steps = c .steps; outputs = c .outputs; reports = c .reports }
-
-abbrev pub dataWords : List Data → List ℕ
-dataWords = map (λ (x : Data). x .0)
-
-abbrev pub shadowWords : List Shadow → List ℕ
-shadowWords = map (λ (v : Shadow). v .0)
 
 -- a state's registers and V words, with the three buffers
 abbrev pub partsOf : State → (mem memV memA : List ℕ) → Parts

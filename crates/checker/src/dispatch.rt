@@ -2,8 +2,8 @@
 // operation and kind of operand, so that the compiler makes a piece of code for it alone.
 use super::Counts;
 use super::counting;
-use super::flat::Flat;
 use super::step;
+use flat::Flat;
 use image::Operand;
 use rules::Data;
 use rules::Operation;
@@ -14,7 +14,7 @@ ghost use Rattle.machine.specs.Machine.{parts};
 ghost use Rattle.machine.specs.Checker.{stepped};
 ghost use Rattle.checker.specs.Views.{world};
 ghost use Rattle.checker.specs.Pieces.{Room, StepsRegisters, FitsSome, MayStep};
-ghost use Rattle.checker.specs.Flat.{meaning};
+ghost use Rattle.flat.specs.Meaning.{meaning};
 
 // An operation on two registers.
 fn on_register(

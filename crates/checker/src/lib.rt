@@ -8,12 +8,10 @@ use rules::Shadow;
 pub mod limits; // limits.rt: the sizes of a run
 pub mod reasons; // reasons.rt: the numbers of the stop reasons
 pub mod refusals; // refusals.rt: the numbers of the refusals 8 to 11
-pub mod registers; // registers.rt: registers as plain words
 mod beginning; // beginning.rt: what an accepted image makes of the buffers
 mod calls; // calls.rt: the public calls with their refusals
 mod counting; // counting.rt: the counts
 mod dispatch; // dispatch.rt: one step
-mod flat; // flat.rt: the form of an instruction that a run steps through
 mod kinds; // kinds.rt: the kinds of report
 mod lists; // lists.rt: the two lists
 mod ranges; // ranges.rt: ranges of bytes

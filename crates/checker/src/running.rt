@@ -2,10 +2,9 @@
 // reason that it meets.
 use super::Counts;
 use super::dispatch;
-use super::flat;
-use super::flat::Flat;
 use super::limits::OUTPUT;
 use super::reasons;
+use flat::Flat;
 use image::Decoded;
 use image::Instruction;
 use image::format::MOST_N;
@@ -17,7 +16,7 @@ ghost use Rattle.image.specs.Format.{mostN};
 ghost use Rattle.machine.specs.Machine.{parts, programIn};
 ghost use Rattle.machine.specs.Runs.{goesOn, stopped, pastEnd, noBudget, noPlace, ended};
 ghost use Rattle.machine.specs.Checker.{runOf};
-ghost use Rattle.checker.specs.Flat.{meaning};
+ghost use Rattle.flat.specs.Meaning.{meaning};
 ghost use Rattle.checker.specs.Views.{world};
 ghost use Rattle.checker.specs.Pieces.{MayStep, CodeFits, Ready, Decodes, Reasons, Turned};
 

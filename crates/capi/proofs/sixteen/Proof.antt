@@ -3,7 +3,7 @@ use native.Mathlib.Omega.{arith}
 use Prim.Native.Nat.{_+_, _-_}
 use mathlib.Core.Path.{refl, sym}
 use lib.ListN.{getD}
-use Rattle.checker.proofs.Filling.{Filling, none-filled, one-filled}
+use Rattle.flat.proofs.Filling.{Filling, none-filled, one-filled}
 use Rattle.capi.proofs.StateWords.{part-is}
 use Rattle.capi.proofs.sixteen.Statement.{statement}
 use Rattle.capi.proofs.sixteen.Tie as tie

@@ -1,5 +1,5 @@
 use borrow.Author.Needs.{needs}
-use Rattle.checker.specs.Flat.{meaning}
+use Rattle.flat.specs.Meaning.{meaning}
 use Rattle.checker.proofs.DispatchLaws.{told, fits-memory, fits-some, by-registers, by-parts, by-use, by-output, by-marks, by-counts}
 use Rattle.checker.proofs.dispatch.step.Statement.{statement}
 use Rattle.checker.proofs.dispatch.step.Tie as tie

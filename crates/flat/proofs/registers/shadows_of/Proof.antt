@@ -3,10 +3,10 @@ use Prim.Native.Nat.{_-_}
 use mathlib.Core.Path.{refl}
 use lib.ListN.{getD}
 use Rattle.rules.specs.declared.Shadow.{Shadow}
-use Rattle.checker.proofs.Filling.{Filling, none-filled, one-filled}
-use Rattle.checker.proofs.RegisterLaws.{all-wrapped}
-use Rattle.checker.proofs.registers.shadows_of.Statement.{statement}
-use Rattle.checker.proofs.registers.shadows_of.Tie as tie
+use Rattle.flat.proofs.Filling.{Filling, none-filled, one-filled}
+use Rattle.flat.proofs.RegisterLaws.{all-wrapped}
+use Rattle.flat.proofs.registers.shadows_of.Statement.{statement}
+use Rattle.flat.proofs.registers.shadows_of.Tie as tie
 
 abbrev Inv-loop : tie.InvT-loop
 Inv-loop words shadows₀ k₀ shadows k = Filling (record { 0 = 0 }) (λ i. record { 0 = getD words i 0 }) 16 shadows k

@@ -1,6 +1,6 @@
-// The form of an instruction that a run steps through: one case for each operation and kind of second
-// operand, so that a step finds its code by one jump. `meaning` in specs/Flat.antt says which
-// instruction each case is.
+// The flat forms that a run works on. Of an instruction: one case for each operation and kind of
+// second operand, so that a step finds its code by one jump; `meaning` in specs/Meaning.antt says
+// which instruction each case is. Of the registers: plain words.
 use image::Instruction;
 use image::Operand;
 use image::Width;
@@ -9,7 +9,9 @@ use rules::Operation;
 ghost use mathlib.Core.Path.{_≡_};
 ghost use Rattle.image.specs.declared.Instruction.the-variants.{Move, Compute};
 ghost use Rattle.image.specs.declared.Operand.the-variants.{Register, Literal};
-ghost use Rattle.checker.specs.Flat.{meaning};
+ghost use Rattle.flat.specs.Meaning.{meaning};
+
+pub mod registers; // registers.rt: registers as plain words
 
 pub enum Flat {
     Stop,

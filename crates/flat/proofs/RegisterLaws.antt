@@ -5,7 +5,7 @@ use mathlib.Core.List.{List, map}
 use native.Mathlib.Omega.{arith}
 use lib.ListN.{length, getD, length-map, List·getD-map}
 use lib.Seq.{ext-getD}
-use Rattle.checker.proofs.Filling.{Filling}
+use Rattle.flat.proofs.Filling.{Filling}
 
 -- a wrapped word W has a word inside
 module _ {W : Type 0} (inside : W → ℕ) (d : W) (n : ℕ) where

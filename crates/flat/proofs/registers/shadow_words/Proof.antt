@@ -2,10 +2,10 @@ use borrow.Author.Needs.{needs}
 use Prim.Native.Nat.{_-_}
 use lib.ListN.{getD}
 use Rattle.rules.specs.declared.Shadow.{Shadow}
-use Rattle.checker.proofs.Filling.{Filling, none-filled, one-filled}
-use Rattle.checker.proofs.RegisterLaws.{all-unwrapped}
-use Rattle.checker.proofs.registers.shadow_words.Statement.{statement}
-use Rattle.checker.proofs.registers.shadow_words.Tie as tie
+use Rattle.flat.proofs.Filling.{Filling, none-filled, one-filled}
+use Rattle.flat.proofs.RegisterLaws.{all-unwrapped}
+use Rattle.flat.proofs.registers.shadow_words.Statement.{statement}
+use Rattle.flat.proofs.registers.shadow_words.Tie as tie
 
 abbrev Inv-loop : tie.InvT-loop
 Inv-loop shadows words₀ k₀ words k = Filling 0 (λ i. getD shadows i (record { 0 = 0 }) .0) 16 words k

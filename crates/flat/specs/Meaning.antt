@@ -1,10 +1,10 @@
--- The instruction that each case of the flat form is (private to the checker: a run decodes into it, and what is promised of it is promised of its `meaning`).
+-- The instruction that each case of the flat form is: what is promised of it is promised of its `meaning`.
 use Rattle.rules.specs.declared.Operation.the-variants.{Add, Sub, Mul, And, Or, Xor, Shl, Shr, Sar, Eq, Ltu}
 use Rattle.image.specs.declared.Operand.the-variants.{Register, Literal}
 use Rattle.image.specs.declared.Instruction.{Instruction}
 use Rattle.image.specs.declared.Instruction.the-variants.{Stop, Move, Compute, Load, Store, Jump, Emit, Mark}
-use Rattle.checker.specs.declared.flat.Flat.{Flat}
-use Rattle.checker.specs.declared.flat.Flat.the-variants as flat
+use Rattle.flat.specs.declared.Flat.{Flat}
+use Rattle.flat.specs.declared.Flat.the-variants as flat
 
 unfoldable pub meaning : Flat → Instruction
 meaning flat.Stop = Stop

@@ -2,7 +2,7 @@
 use rules::Data;
 use rules::Shadow;
 ghost use mathlib.Core.Path.{_≡_};
-ghost use Rattle.checker.specs.Views.{dataWords, shadowWords};
+ghost use Rattle.flat.specs.Registers.{dataWords, shadowWords};
 
 pub fn data_words(regs: [Data; 16]) -> [u32; 16]
     ensures { λ r. ⌜ r ≡ dataWords regs ⌝ }
