@@ -1,5 +1,5 @@
 -- ADD, SUB and MUL: an operation whose low bits depend on the operands' low bits alone is sound under Left.
-use mathlib.Core.Path.{_≡_, sym, ap, ap₂, _∙_, subst}
+use mathlib.Core.Path.{_≡_, refl, sym, ap, ap₂, _∙_, subst}
 use mathlib.Core.Logic.{_↔_}
 use Prim.Native.Nat.{ℕ, suc, _+_, _-_, _*_, _%_, _^_, _≤_, _<_, max}
 use native.Mathlib.Nat.{mod-lt, mod-eq-of-lt, add-mod, pow-suc}
@@ -57,6 +57,10 @@ left-clear i v hi hv = (low, clear)
         let rest : (2 ^ 32 - v) % 2 ^ suc i ≡ 2 ^ 32 % 2 ^ suc i = rest-same (2 ^ suc i) (2 ^ 32) v 0 (pow-pos (suc i)) (omega arith) (omega arith) (z ∙ sym none) in
         bit-or i v (negated v)
         ∙ ap₂ max (bit-same i v 0 (z ∙ sym none) ∙ bit-zero i) (bit-same i (negated v) 0 (wrapped-low (suc i) (2 ^ 32 - v) hi ∙ rest ∙ sym whole) ∙ bit-zero i)
+
+-- of no undefined bit Left makes none
+pub left-none : Left 0 ≡ 0
+left-none = refl
 
 pub left-below : (i j v : ℕ) → i < 32 → j < suc i → v < 2 ^ 32 → bit i (Left v) ≡ 0 → bit j v ≡ 0
 left-below i j v hi hj hv z = sym (bit-mod j (suc i) v hj) ∙ ap (bit j) (left-clear i v hi hv .0 z) ∙ bit-zero j

@@ -1,4 +1,7 @@
+use mathlib.Core.Path.{sym, ap, _∙_}
 use borrow.Author.Needs.{needs}
+use Rattle.rules.specs.Shadows.{Left}
+use Rattle.rules.proofs.Carry.{left-none}
 use Rattle.rules.proofs.shadows.carried.Statement.{statement}
 use Rattle.rules.proofs.shadows.carried.Tie as tie
 
@@ -8,4 +11,5 @@ carried-spec =
     (tie.spec
     (λ c κs. search needs)
     (λ c κs. search needs)
-    (λ c. cc))
+    (λ c. let u : tie.After-uifu = search in sym (ap Left (sym (u .uifu .ensures) ∙ c .if1 .taken) ∙ left-none))
+    (λ c. let u : tie.After-uifu = search in c .left .ensures ∙ ap Left (u .uifu .ensures)))
