@@ -58,7 +58,7 @@ left-clear i v hi hv = (low, clear)
         bit-or i v (negated v)
         ∙ ap₂ max (bit-same i v 0 (z ∙ sym none) ∙ bit-zero i) (bit-same i (negated v) 0 (wrapped-low (suc i) (2 ^ 32 - v) hi ∙ rest ∙ sym whole) ∙ bit-zero i)
 
--- of no undefined bit Left makes none
+-- Left makes no bit undefined where none was, so that the rules may pass it by (02, L3)
 pub left-none : Left 0 ≡ 0
 left-none = refl
 

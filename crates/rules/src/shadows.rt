@@ -32,8 +32,8 @@ pub fn pcast_bit(v: Shadow) -> Shadow
     Shadow(words::select(v.0 == 0, 0, 1))
 }
 
-// An undefined bit of either operand reaches every bit above it by carries. Where there is none, as
-// in most programs, the answer is 0 at once (document 02, L3).
+// An undefined bit of either operand reaches every bit above it by carries. Most operands have none
+// (02, L3).
 fn carried(v: Shadow, w: Shadow) -> Shadow
     ensures { λ r. ⌜ r .0 ≡ Left (UifU (v .0) (w .0)) ⌝ }
 {
