@@ -1,5 +1,5 @@
 -- The bits of a number, and of what the operations on numbers give.
-use mathlib.Core.Path.{_≡_, sym, ap, ap₂, _∙_, subst}
+use mathlib.Core.Path.{_≡_, refl, sym, ap, ap₂, _∙_, subst}
 use mathlib.Core.Logic.{_⊎_, inl, inr, ⊎-elim}
 use mathlib.Core.Bool.{Bool, true, false, cond}
 use Prim.Native.Nat.{ℕ, zero, suc, _+_, _-_, _*_, _/_, _%_, _^_, _≤_, _<_, min, max}
@@ -70,6 +70,17 @@ differ-small (suc x) (suc y) hx hy = differ-small x y (omega arith) (omega arith
 
 pub bit-xor : (i a b : ℕ) → bit i (bitXor a b) ≡ differ (bit i a) (bit i b)
 bit-xor = bit-op bitXor differ xor-shr xor-step differ-small
+
+-- equal digits do not differ, other ones do
+pub differ-self : (b : ℕ) → differ b b ≡ 0
+differ-self zero = refl
+differ-self (suc b) = differ-self b
+
+pub differ-one : (a b : ℕ) → a < 2 → b < 2 → (a ≡ b → ⊥) → differ a b ≡ 1
+differ-one zero zero ha hb f = absurd (f refl)
+differ-one zero (suc b) ha hb f = omega arith
+differ-one (suc a) zero ha hb f = omega arith
+differ-one (suc a) (suc b) ha hb f = absurd (f (omega arith))
 
 -- ---- the low digits
 pub bit-mod : (i k x : ℕ) → i < k → bit i (x % 2 ^ k) ≡ bit i x

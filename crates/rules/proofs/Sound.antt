@@ -1,6 +1,6 @@
 -- The theorem: every shadow rule is sound for the action of its operation.
 use Prim.Native.Nat.{ℕ, _+_, _-_, _*_, _^_}
-use lib.Dec.{eqb, ltb}
+use lib.Dec.{ltb}
 use Rattle.rules.specs.Actions.{movOf, addOf, subOf, mulOf, amountOf, shlOf, shrOf, sarOf}
 use Rattle.rules.specs.Shadows.{movV}
 use Rattle.rules.specs.Operations.{actionOf, shadowOf}
@@ -11,7 +11,7 @@ use Rattle.rules.proofs.Congruence.{wrapped-lt}
 use Rattle.rules.proofs.Carry.{carries-sound, add-carries, sub-carries, mul-carries}
 use Rattle.rules.proofs.Bitwise.{and-sound, or-sound, xor-sound}
 use Rattle.rules.proofs.Shift.{shift-sound, shl-moves, shr-moves, sar-moves, shr-lt, sar-lt}
-use Rattle.rules.proofs.Compare.{test-sound}
+use Rattle.rules.proofs.Compare.{test-sound, eq-sound}
 
 pub mov-sound : {v y y′ : ℕ} → Alike 32 v y y′ → Alike 32 (movV v) (movOf y) (movOf y′)
 mov-sound a = a
@@ -27,5 +27,5 @@ sound Xor = xor-sound
 sound Shl = shift-sound shlOf shl-moves (λ x y h. wrapped-lt (x * 2 ^ amountOf y))
 sound Shr = shift-sound shrOf shr-moves shr-lt
 sound Sar = shift-sound sarOf sar-moves sar-lt
-sound Eq = test-sound eqb
+sound Eq = eq-sound
 sound Ltu = test-sound ltb

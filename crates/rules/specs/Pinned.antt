@@ -35,7 +35,9 @@ pinned =
     ∷ does Shl false 1 0 0 0x20 1 allOnes
     ∷ does Shr false 1 0 0 0x20 1 allOnes
     ∷ does Sar false 1 0 0 0x20 1 allOnes
+    -- EQ, as amended by 02, L4: no defined bits differ, and they do
     ∷ does Eq false 0 0x80 0 0 1 1
+    ∷ does Eq false 1 0x80 0 0 0 0
     ∷ does Mul false 0xFFFF_FFFF 0 0xFFFF_FFFF 0 1 0
     -- ours
     ∷ moves 0xDEAD_BEEF 0x0F0F_0F0F 0xDEAD_BEEF 0x0F0F_0F0F
@@ -52,7 +54,17 @@ pinned =
     ∷ does Sar false 0x4000_0000 0x4000_0000 30 0 1 1
     ∷ does Shl false 1 0 0 0x8000_0000 1 allOnes
     ∷ does Eq false 0 0 0x8000_0000 0 0 0
-    ∷ does Eq false 0 0 1 0x8000_0000 0 1
+    ∷ does Eq false 7 0 7 0 1 0
+    ∷ does Eq false 1 0 1 0x8000_0000 1 1
+    ∷ does Eq false 0 0 1 0x8000_0000 0 0
+    ∷ does Eq false 0 0x80 1 0 0 0
+    ∷ does Eq false 0x8000_0000 0x80 0 0 0 0
+    ∷ does Eq false 0x100 0 0 0x80 0 0
+    ∷ does Eq false 0 0 0x100 0x80 0 0
+    ∷ does Eq false 0x80 0x80 0 0 0 1
+    ∷ does Eq false 0 0 0x80 0x80 0 1
+    ∷ does Eq false 0x50 0xF0 0x05 0x0F 0 1
+    ∷ does Eq false 0x150 0xF0 0x05 0x0F 0 0
     ∷ does Eq true 7 0x80 7 0x80 1 1
     ∷ does Ltu false 1 0 0x8000_0000 0 1 0
     ∷ does Ltu false 1 0 1 0x8000_0000 0 1

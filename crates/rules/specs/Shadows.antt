@@ -1,8 +1,8 @@
--- The shadow rules (01, "Shadow rules"). v and w are the operands' V words, x and y their data. A V bit is 1 where the data bit is undefined.
+-- The shadow rules (01, "Shadow rules"; that of EQ 02, L4). v and w are the operands' V words, x and y their data. A V bit is 1 where the data bit is undefined.
 -- UifU, Left, PCast and ZWiden are the abstract operations of 000, section 2.5; the rules that are made of them are in its section 2.6.
 use Prim.Native.Nat.{ℕ, _-_, _^_}
-use mathlib.Core.Bool.{Bool, cond}
-use lib.Bits.{bitAnd, bitOr}
+use mathlib.Core.Bool.{Bool, cond, not, _||_}
+use lib.Bits.{bitAnd, bitOr, bitXor}
 use lib.Dec.{eqb}
 use Rattle.rules.specs.Word.{allOnes, inverted, negated}
 use Rattle.rules.specs.Actions.{shlOf, shrOf, sarOf}
@@ -66,9 +66,14 @@ shrV = shiftV shrOf
 abbrev pub sarV : Rule
 sarV = shiftV sarOf
 
--- EQ, LTU (01; 000, 2.5, narrowing casts): bit 0 is undefined if any bit of either is; the other 31 are defined
-abbrev pub eqV : Rule
-eqV same x v y w = ZWiden (PCast 1 (UifU v w))
+-- the bits that are defined on both sides and differ (`apart-bit` of proofs/Compare.antt shows that they are)
+abbrev pub apart : ℕ → ℕ → ℕ → ℕ → ℕ
+apart x v y w = bitAnd (bitXor x y) (inverted (UifU v w))
 
+-- EQ (02, L4): V 0 if some bit is defined on both sides and differs, or if no bit of either is undefined; otherwise V 1
+abbrev pub eqV : Rule
+eqV same x v y w = cond (not (eqb (apart x v y w) 0) || eqb (UifU v w) 0) 0 1
+
+-- LTU (01; 000, 2.5, narrowing casts): bit 0 is undefined if any bit of either is; the other 31 are defined
 abbrev pub ltuV : Rule
 ltuV same x v y w = ZWiden (PCast 1 (UifU v w))

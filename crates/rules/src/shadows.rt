@@ -9,7 +9,7 @@ ghost use mathlib.Core.Path.{_≡_};
 ghost use mathlib.Core.Bool.{cond};
 ghost use lib.Dec.{eqb};
 ghost use Rattle.rules.specs.Word.{allOnes};
-ghost use Rattle.rules.specs.Shadows.{UifU, Left, PCast, movV, addV, subV, mulV, andV, orV, xorV, shlV, shrV, sarV, eqV, ltuV};
+ghost use Rattle.rules.specs.Shadows.{UifU, Left, PCast, movV, addV, subV, mulV, andV, orV, xorV, shlV, shrV, sarV, apart, eqV, ltuV};
 
 // UifU: undefined where either is.
 pub fn uifu(v: Shadow, w: Shadow) -> Shadow
@@ -41,11 +41,11 @@ fn carried(v: Shadow, w: Shadow) -> Shadow
     if u.0 == 0 { Shadow(0) } else { left(u) }
 }
 
-// An undefined bit of either operand leaves a comparison undefined.
-fn compared(v: Shadow, w: Shadow) -> Shadow
-    ensures { λ r. ⌜ r .0 ≡ PCast 1 (UifU (v .0) (w .0)) ⌝ }
+// The bits that are defined on both sides and differ.
+fn apart(x: Data, v: Shadow, y: Data, w: Shadow) -> u32
+    ensures { λ r. ⌜ r ≡ apart (x .0) (v .0) (y .0) (w .0) ⌝ }
 {
-    pcast_bit(uifu(v, w))
+    (x.0 ^ y.0) & !uifu(v, w).0
 }
 
 // An undefined bit of the amount leaves nothing of a shift defined; u is V shifted by the amount.
@@ -119,11 +119,13 @@ pub fn sar(same: bool, x: Data, v: Shadow, y: Data, w: Shadow) -> Shadow
 pub fn eq(same: bool, x: Data, v: Shadow, y: Data, w: Shadow) -> Shadow
     ensures { λ r. ⌜ r .0 ≡ eqV same (x .0) (v .0) (y .0) (w .0) ⌝ }
 {
-    compared(v, w)
+    let settled = apart(x, v, y, w) != 0;
+    let defined = uifu(v, w).0 == 0;
+    Shadow(words::select(settled | defined, 0, 1))
 }
 
 pub fn ltu(same: bool, x: Data, v: Shadow, y: Data, w: Shadow) -> Shadow
     ensures { λ r. ⌜ r .0 ≡ ltuV same (x .0) (v .0) (y .0) (w .0) ⌝ }
 {
-    compared(v, w)
+    pcast_bit(uifu(v, w))
 }

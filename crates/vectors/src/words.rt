@@ -10,7 +10,7 @@ use rules::Shadow;
 // An operation, whether both operands are one register, and x, v, y and w.
 struct Case(Operation, bool, u32, u32, u32, u32);
 
-const CASES: usize = 32;
+const CASES: usize = 43;
 
 // The rows of rules/specs/Pinned.antt: first those that document 01 pins.
 const TABLE: [Case; CASES] = [
@@ -34,6 +34,7 @@ const TABLE: [Case; CASES] = [
     Case(Operation::Shr, false, 1, 0, 0, 0x20),
     Case(Operation::Sar, false, 1, 0, 0, 0x20),
     Case(Operation::Eq, false, 0, 0x80, 0, 0),
+    Case(Operation::Eq, false, 1, 0x80, 0, 0),
     Case(Operation::Mul, false, 0xffff_ffff, 0, 0xffff_ffff, 0),
     // ours
     Case(Operation::Add, false, 0xffff_ffff, 0, 0x8000_0001, 0),
@@ -56,7 +57,17 @@ const TABLE: [Case; CASES] = [
     Case(Operation::Sar, false, 0x4000_0000, 0x4000_0000, 30, 0),
     Case(Operation::Shl, false, 1, 0, 0, 0x8000_0000),
     Case(Operation::Eq, false, 0, 0, 0x8000_0000, 0),
+    Case(Operation::Eq, false, 7, 0, 7, 0),
+    Case(Operation::Eq, false, 1, 0, 1, 0x8000_0000),
     Case(Operation::Eq, false, 0, 0, 1, 0x8000_0000),
+    Case(Operation::Eq, false, 0, 0x80, 1, 0),
+    Case(Operation::Eq, false, 0x8000_0000, 0x80, 0, 0),
+    Case(Operation::Eq, false, 0x100, 0, 0, 0x80),
+    Case(Operation::Eq, false, 0, 0, 0x100, 0x80),
+    Case(Operation::Eq, false, 0x80, 0x80, 0, 0),
+    Case(Operation::Eq, false, 0, 0, 0x80, 0x80),
+    Case(Operation::Eq, false, 0x50, 0xf0, 0x05, 0x0f),
+    Case(Operation::Eq, false, 0x150, 0xf0, 0x05, 0x0f),
     Case(Operation::Eq, true, 7, 0x80, 7, 0x80),
     Case(Operation::Ltu, false, 1, 0, 0x8000_0000, 0),
     Case(Operation::Ltu, false, 1, 0, 1, 0x8000_0000),
