@@ -15,8 +15,8 @@
  * that it was lent as is said at the call below, whether it accepts or refuses. This is proved for
  * every input; the formal statement is the contracts in crates/capi/src/lib.rt, over the
  * definitions of crates/capi/specs/Promises.antt. What an image holds and what an instruction does
- * are the machine's rules (document 01; crates/image/specs, crates/rules/specs,
- * crates/machine/specs).
+ * are the machine's rules (documents 01 and 02; crates/image/specs,
+ * crates/rules/specs, crates/machine/specs).
  *
  * WHAT IS ASKED, which no call can check, and without which nothing is promised:
  *   - A pointer refers to as many elements as the size after it says, an array parameter to as many
