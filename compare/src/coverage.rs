@@ -4,8 +4,9 @@ use std::fmt::Write;
 
 use crate::calls::Answer;
 use crate::cases::Desk;
-use crate::images::{op, HEADER_BYTES, ROW_BYTES};
+use crate::images::{op, word_at, HEADER_BYTES, ROW_BYTES};
 use crate::plan::Plan;
+use crate::systematic::FAMILIES;
 use crate::types::State;
 
 /// Accepted calls are counted as number 0.
@@ -14,6 +15,17 @@ const REASONS: usize = 5;
 const REPORT_KINDS: usize = 6;
 /// The highest refusal of reading, beginning and running.
 const CALLS: [(&str, usize); 3] = [("reading", 7), ("beginning", 8), ("running", 11)];
+/// The sorts of EQ that request L4 tells apart, and whose cases they were met in.
+const EQUALITIES: [&str; 7] = [
+    "without undefined bits",
+    "of one register",
+    "unsettled with equal data",
+    "unsettled with other data",
+    "settled with bits of a undefined",
+    "settled with bits of B undefined",
+    "settled with bits of both undefined",
+];
+const MET_IN: [&str; 2] = ["counted", "drawn"];
 
 #[derive(Clone, Default)]
 struct OfKind {
@@ -29,6 +41,24 @@ pub struct Coverage {
     reports: [u64; REPORT_KINDS],
     /// Ops of steps that a run took alone, and STOP where a run ended at it.
     ops: [u64; op::COUNT],
+    /// Of those, EQ by its sort.
+    equalities: [[u64; EQUALITIES.len()]; MET_IN.len()],
+}
+
+/// The sort of an EQ in this state, by its place among `EQUALITIES`.
+fn equality(state: &State, row: &[u8]) -> usize {
+    let (a, b) = (usize::from(row[2]), usize::from(row[3]));
+    let (x, v) = (state.regs[a], state.vregs[a]);
+    let (y, w) = state.regs.get(b).map_or((word_at(row, 4), 0), |&y| (y, state.vregs[b]));
+    let settled = (x ^ y) & !(v | w) != 0;
+    match (v != 0, w != 0) {
+        (false, false) => 0,
+        _ if a == b => 1,
+        _ if !settled => 2 + usize::from(x != y),
+        (_, false) => 4,
+        (false, _) => 5,
+        _ => 6,
+    }
 }
 
 fn add(to: &mut [u64], from: &[u64]) {
@@ -45,6 +75,7 @@ impl Default for Coverage {
             reasons: Default::default(),
             reports: Default::default(),
             ops: Default::default(),
+            equalities: Default::default(),
         }
     }
 }
@@ -62,6 +93,9 @@ impl Coverage {
         add(&mut self.reasons, &other.reasons);
         add(&mut self.reports, &other.reports);
         add(&mut self.ops, &other.ops);
+        for (to, from) in self.equalities.iter_mut().zip(&other.equalities) {
+            add(to, from);
+        }
     }
 
     pub fn case(&mut self, kind: usize) {
@@ -84,21 +118,25 @@ impl Coverage {
             if number == 0 {
                 self.reasons[(ran.reason as usize).min(REASONS - 1)] += 1;
                 self.kinds[kind].steps += u64::from(ran.state.steps - before.steps);
-                self.ran(before, ran.reason, after);
+                self.ran(kind, before, ran.reason, after);
             }
         }
     }
 
-    fn ran(&mut self, before: &State, reason: u32, after: &Desk) {
+    fn ran(&mut self, kind: usize, before: &State, reason: u32, after: &Desk) {
         for k in before.reports..after.state.reports {
             let Some(report) = after.lists.reports.chunks(4).nth(k as usize) else {
                 break;
             };
             self.reports[(report[2] as usize).min(REPORT_KINDS - 1)] += 1;
         }
-        let op_at = |index: u32| after.image[HEADER_BYTES + ROW_BYTES * index as usize];
         if after.state.steps == before.steps + 1 {
-            self.ops[usize::from(op_at(before.index))] += 1;
+            let row = &after.image[HEADER_BYTES + ROW_BYTES * before.index as usize..];
+            self.ops[usize::from(row[0])] += 1;
+            if row[0] == op::EQ {
+                let drawn = usize::from(kind >= FAMILIES.len());
+                self.equalities[drawn][equality(before, row)] += 1;
+            }
         }
         if reason == 1 {
             self.ops[usize::from(op::STOP)] += 1;
@@ -113,7 +151,7 @@ impl Coverage {
         self.kinds.iter().map(|kind| kind.steps).sum()
     }
 
-    /// What document 01 has and no case met.
+    /// What the documents have and no case met.
     pub fn missing(&self) -> Vec<String> {
         let mut missing = Vec::new();
         let mut look = |what: String, count: u64| {
@@ -134,6 +172,11 @@ impl Coverage {
         }
         for (name, &count) in op::NAMES.iter().zip(&self.ops) {
             look(format!("op {name}"), count);
+        }
+        for (met_in, counts) in MET_IN.iter().zip(&self.equalities) {
+            for (sort, &count) in EQUALITIES.iter().zip(counts) {
+                look(format!("EQ {sort}, in {met_in} cases"), count);
+            }
         }
         missing
     }
@@ -160,8 +203,11 @@ impl Coverage {
         let reasons = pairs(&numbered(REASONS), &self.reasons[1..]);
         let reports = pairs(&numbered(REPORT_KINDS), &self.reports[1..]);
         let ops = pairs(&op::NAMES.map(str::to_string), &self.ops);
+        let sorts = EQUALITIES.map(str::to_string);
+        let [counted, drawn] = self.equalities.each_ref().map(|counts| pairs(&sorts, counts));
         format!(
-            "{heads}\n{table}stop reasons: {reasons}\nreport kinds: {reports}\nsingle steps: {ops}\n"
+            "{heads}\n{table}stop reasons: {reasons}\nreport kinds: {reports}\nsingle steps: {ops}\n\
+             single steps of EQ, counted: {counted}\nsingle steps of EQ, drawn: {drawn}\n"
         )
     }
 }

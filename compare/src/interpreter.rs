@@ -1,4 +1,5 @@
-//! Document 01 taken at its word: reading, beginning and running, plain and in its order.
+//! Document 01 taken at its word, with EQ's rule from request L4 of document 02: reading, beginning
+//! and running, plain and in its order.
 
 use crate::types::{Began, Buffers, Engine, Header, Lists, Ran, State};
 
@@ -311,7 +312,7 @@ impl Machine<'_> {
             SHL => self.set(d, x << amount, shifted(w, v << amount)),
             SHR => self.set(d, x >> amount, shifted(w, v >> amount)),
             SAR => self.set(d, arithmetic(x, amount), shifted(w, arithmetic(v, amount))),
-            EQ => self.set(d, u32::from(x == y), u32::from((v | w) != 0)),
+            EQ => self.set(d, u32::from(x == y), equality(x, v, y, w)),
             LTU => self.set(d, u32::from(x < y), u32::from((v | w) != 0)),
             LD8 => self.load(d, a, imm, 1),
             LD32 => self.load(d, a, imm, 4),
@@ -435,6 +436,18 @@ fn shifted(w: u32, v: u32) -> u32 {
         u32::MAX
     } else {
         v
+    }
+}
+
+/// The V of EQ (02, L4): 0 if some bit is defined on both sides and differs, or if no bit of either
+/// is undefined; otherwise 1.
+fn equality(x: u32, v: u32, y: u32, w: u32) -> u32 {
+    let differs = ((x ^ y) & !v & !w) != 0;
+    let defined = (v | w) == 0;
+    if differs || defined {
+        0
+    } else {
+        1
     }
 }
 

@@ -31,9 +31,12 @@ fn pinned_shifts() {
     }
 }
 
+/// EQ's vector as request L4 of document 02 amends it: V 1 only if no defined bits differ.
 #[test]
 fn pinned_comparison_and_product() {
     assert_eq!(op_on(11, (0, 0x80), (0, 0)), (1, 1));
+    assert_eq!(op_on(11, (0x81, 0x80), (1, 0)), (0, 1));
+    assert_eq!(op_on(11, (1, 0x80), (0, 0)), (0, 0));
     assert_eq!(op_on(4, (ONES, 0), (ONES, 0)), (1, 0));
 }
 
