@@ -106,8 +106,13 @@ fn any_state(prng: &mut Prng, m: u32, n: u32, places: u32) -> State {
     };
     let twice = 2 * steps;
     let any = prng.between(0, twice);
+    let mut regs = registers(prng, m);
+    if prng.one_in(2) {
+        let alike = prng.pick(&regs);
+        regs = regs.map(|word| if prng.one_in(2) { alike } else { word });
+    }
     State {
-        regs: registers(prng, m),
+        regs,
         vregs: std::array::from_fn(|_| edges::shadow(prng)),
         index: if prng.one_in(8) { n } else { prng.below(n) },
         steps,

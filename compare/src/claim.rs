@@ -26,6 +26,8 @@ const MOST_REFUSED: u32 = 20;
 const MOST_REPORTED: u32 = 3;
 /// A program is counted under the highest of these step counts that it reached without a report.
 const STEP_MARKS: [u32; 5] = [0, 1, 12, 48, 200];
+/// The planted fault that is EQ before request L4, by which a settled comparison is undefined.
+const BEFORE_L4: &str = "eq_of_document_01";
 
 const ANY_PROGRAM: [Maker; 6] = [
     programs::straight,
@@ -47,6 +49,8 @@ pub struct Tally {
     stopped_by_report: [u64; STEP_MARKS.len()],
     refused: u64,
     outputs: u64,
+    /// Programs that ran clean and would not have before request L4.
+    settled: u64,
 }
 
 impl Tally {
@@ -56,6 +60,7 @@ impl Tally {
         self.differing += other.differing;
         self.refused += other.refused;
         self.outputs += other.outputs;
+        self.settled += other.settled;
         for mark in 0..STEP_MARKS.len() {
             self.clean[mark] += other.clean[mark];
             self.stopped_by_report[mark] += other.stopped_by_report[mark];
@@ -70,14 +75,16 @@ impl Tally {
         } else {
             self.clean[reached] += 1;
             self.outputs += u64::from(pair.desk.state.outputs);
+            self.settled += u64::from(pair.reported_before_l4());
         }
     }
 
-    /// Is too little behind the claim: programs clean for dozens of steps, undefined bits that
-    /// differ, refused runs, outputs?
+    /// Is too little behind the claim: programs clean for dozens of steps, and by settled comparisons,
+    /// undefined bits that differ, refused runs, outputs?
     pub fn is_empty(&self) -> bool {
         let dozens: u64 = self.clean[3..].iter().sum();
-        let few = 8 * dozens < self.programs || 2 * self.differing < self.looks;
+        let few_programs = 8 * dozens < self.programs || 8 * self.settled < self.programs;
+        let few = few_programs || 2 * self.differing < self.looks;
         few || self.programs == 0 || self.refused == 0 || self.outputs == 0
     }
 
@@ -92,13 +99,15 @@ impl Tally {
             "programs that ran clean, by steps: {}\n\
              programs stopped by a report, by clean steps before it: {}\n\
              looks at both machines: {}, of them {} with undefined bits that differ\n\
-             refused runs among them: {}; outputs of clean programs: {}\n",
+             refused runs among them: {}; outputs of clean programs: {}\n\
+             clean programs that would have been reported before L4: {}\n",
             by_steps(&self.clean),
             by_steps(&self.stopped_by_report),
             self.looks,
             self.differing,
             self.refused,
-            self.outputs
+            self.outputs,
+            self.settled
         )
     }
 }
@@ -142,6 +151,8 @@ impl fmt::Display for Failure {
 
 struct Pair<'a> {
     checker: &'a Engine,
+    /// The desk as the beginning found it, and the registers handed in.
+    start: (Desk, [u32; 16]),
     desk: Desk,
     bare: Bare,
     trapped: bool,
@@ -170,6 +181,7 @@ impl Pair<'_> {
         other[15] = registers[15];
         let leftovers: Vec<u8> =
             desk.mem.iter().map(|&byte| if opposite { !byte } else { prng.byte() }).collect();
+        let start = (desk.clone(), registers);
         match calls::make(checker, &mut desk, Call::Begin(registers)) {
             Answer::Begun(began) if began.number == 0 => {}
             Answer::Panicked(message) => return Err(Wrong::Broken(panicked(message))),
@@ -177,7 +189,17 @@ impl Pair<'_> {
         }
         let bare = guarded(|| Bare::begin(&desk.image, &other, &leftovers));
         let bare = bare.map_err(|message| Wrong::Broken(panicked(message)))?;
-        Ok(Pair { checker, desk, bare, trapped: false, clean_steps: 0 })
+        Ok(Pair { checker, start, desk, bare, trapped: false, clean_steps: 0 })
+    }
+
+    /// Is the program, as far as it ran clean, reported by EQ's rule before request L4?
+    fn reported_before_l4(&self) -> bool {
+        let (mut desk, registers) = self.start.clone();
+        let before = faults::planted(BEFORE_L4).expect("it is one of the planted faults");
+        for call in [Call::Begin(registers), Call::Run(Budget::Exactly(self.clean_steps))] {
+            calls::make(before, &mut desk, call);
+        }
+        desk.state.reports > 0
     }
 
     /// A run on the checker and, unless refused, on the bare machine; the two stop reasons.

@@ -1,5 +1,7 @@
 //! Programs that run without a report although undefined data moves all through them.
 
+mod comparisons;
+
 use crate::edges;
 use crate::images::{op, Image, Operand, Region, Row, FILLED, MOST_ROWS, UNDEFINED};
 use crate::prng::Prng;
@@ -14,6 +16,9 @@ const FIRM: [u8; 4] = [8, 9, 10, 11];
 const SCRATCH: [u8; 2] = [6, 7];
 const POINTER: u8 = 12;
 const COUNTERS: [u8; 2] = [13, 14];
+
+/// Rounds of a loop.
+const MOST_ROUNDS: u32 = 9;
 
 /// Bytes of a zone; a power of two, so that a mask keeps an address inside.
 const ZONE: u32 = 16;
@@ -194,31 +199,23 @@ impl Draft<'_> {
         self.add(op::AND, d, SCRATCH[0], Literal(low));
     }
 
-    /// A firm byte stored among undefined ones, loaded with them and masked out.
-    fn firm_byte_among_undefined(&mut self) {
-        let (d, a, byte) = (self.firm_target(), self.loose(), self.firm());
+    /// A byte stored among undefined ones and loaded with them; its lowest bit in the word.
+    fn byte_among_undefined(&mut self, byte: u8) -> u32 {
+        let a = self.loose();
         let to = self.zones.loose + self.prng.below(ZONE - 3);
         let k = self.prng.below(4);
         self.rows.push(Row::copy(POINTER, Literal(0)));
         self.rows.push(Row::access(op::ST32, a, POINTER, to));
         self.rows.push(Row::access(op::ST8, byte, POINTER, to + k));
         self.rows.push(Row::access(op::LD32, SCRATCH[0], POINTER, to));
-        self.add(op::AND, d, SCRATCH[0], Literal(0xFF << (8 * k)));
+        8 * k
     }
 
-    /// A comparison that undefined bits decide.
-    fn compared(&mut self) {
-        let (d, a) = (self.loose(), self.loose());
-        let bit = 1 << self.prng.below(32);
-        let op = self.prng.pick(&[op::EQ, op::LTU, op::XOR, op::SUB]);
-        self.add(op::AND, SCRATCH[0], a, Literal(bit));
-        if self.prng.one_in(2) {
-            let literal = self.prng.pick(&[0, bit]);
-            self.add(op, d, SCRATCH[0], Literal(literal));
-        } else {
-            self.rows.push(Row::copy(SCRATCH[1], Literal(bit)));
-            self.add(op, d, SCRATCH[1], Register(SCRATCH[0]));
-        }
+    /// A firm byte masked out of undefined ones.
+    fn firm_byte_among_undefined(&mut self) {
+        let (d, byte) = (self.firm_target(), self.firm());
+        let shift = self.byte_among_undefined(byte);
+        self.add(op::AND, d, SCRATCH[0], Literal(0xFF << shift));
     }
 
     /// What must be reported: an undefined condition, output or address, or an unaddressable byte.
@@ -277,7 +274,7 @@ impl Draft<'_> {
     }
 
     fn block(&mut self, counters: &[u8]) {
-        match self.prng.below(22) {
+        match self.prng.below(23) {
             0..=2 => self.loose_sum(),
             3 => self.firm_sum(),
             4 | 5 => self.loose_memory(),
@@ -292,6 +289,7 @@ impl Draft<'_> {
             14 | 15 => self.counted(counters),
             16 => self.skipped(counters),
             17 | 18 => self.compared(),
+            19 => self.polled(counters),
             _ => {
                 self.partly_defined();
                 self.loose_sum();
@@ -305,16 +303,20 @@ impl Draft<'_> {
         }
     }
 
-    fn counted(&mut self, counters: &[u8]) {
-        let Some((&counter, inside)) = counters.split_first() else {
-            return;
-        };
-        let rounds = self.prng.between(1, 9);
+    /// A loop that counts down to 1.
+    fn looped(&mut self, counter: u8, body: impl FnOnce(&mut Self)) {
+        let rounds = self.prng.between(1, MOST_ROUNDS);
         self.rows.push(Row::copy(counter, Literal(rounds)));
         let top = self.rows.len() as u32;
-        self.blocks(5, inside);
+        body(self);
         self.add(op::SUB, counter, counter, Literal(1));
         self.rows.push(Row::jump(counter, top));
+    }
+
+    fn counted(&mut self, counters: &[u8]) {
+        if let Some((&counter, inside)) = counters.split_first() {
+            self.looped(counter, |draft| draft.blocks(5, inside));
+        }
     }
 
     /// Blocks that a firm register jumps over.
