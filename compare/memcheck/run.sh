@@ -1,11 +1,11 @@
 #!/bin/sh
 # Measures Memcheck's V bits with vbits.c and compares them with the checker's.
-# Usage: run.sh PROGRAM [L4] [L13]   PROGRAM is the built memcheck; the rest are requests it has.
+# Usage: run.sh PROGRAM [L13]   PROGRAM is the built memcheck; L13 says that the checker has that request.
 set -eu
 here=$(cd "$(dirname "$0")" && pwd)
 
 if [ $# -lt 1 ]; then
-    echo "usage: run.sh PROGRAM [L4] [L13]" >&2
+    echo "usage: run.sh PROGRAM [L13]" >&2
     exit 1
 fi
 if ! command -v valgrind >/dev/null || ! echo '#include <valgrind/memcheck.h>' | gcc -E - >/dev/null 2>&1; then

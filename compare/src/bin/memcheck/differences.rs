@@ -7,11 +7,11 @@ use compare::images::op;
 
 use crate::cases::{Case, Form};
 use crate::modes::Mode::{self, Auto, No, Plain, Yes};
-use crate::modes::Request::{self, L13, L4};
+use crate::modes::Request::{self, L13};
 use crate::modes::{ALL, OPTIMISED};
 use crate::rules::{
     document_01, high_bits_equality, high_bits_undefined, is_carry_literal, is_literal_zero,
-    is_power_literal, l13, l4, shifted,
+    is_power_literal, l13, shifted,
 };
 use Relation::{Equal, MemcheckFiner, Neither, OursFiner};
 use Stage::{Always, With, Without};
@@ -85,10 +85,7 @@ pub const ROWS: &[Difference] = &[
     Difference { ops: &[op::LTU], modes: &[Auto, Yes], stage: Always, when: is_power_literal,
         finer: MemcheckFiner, rule: high_bits_equality,
         why: "below the literal 2^n becomes an equality as in mode no, and that is L4's" },
-    Difference { ops: &[op::EQ], modes: &[Auto, Yes], stage: Without(L4), when: |_| true,
-        finer: MemcheckFiner, rule: l4,
-        why: "L4's rule in every case: two defined bits that differ decide; closed by L4" },
-    Difference { ops: &[op::EQ], modes: &[No, Plain], stage: With(L4), when: |_| true,
+    Difference { ops: &[op::EQ], modes: &[No, Plain], stage: Always, when: |_| true,
         finer: OursFiner, rule: document_01,
         why: "document 01's rule in every case; the checker has L4's" },
     Difference { ops: &[op::ADD], modes: &[Auto, Yes], stage: Without(L13), when: |_| true,

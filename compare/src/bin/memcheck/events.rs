@@ -52,8 +52,10 @@ const LOAD_PAST: Row = Row::access(op::LD32, RESULT, FIRST, 4);
 const STORE: Row = Row::access(op::ST32, SECOND, FIRST, 0);
 const STORE_BYTE: Row = Row::access(op::ST8, SECOND, FIRST, 0);
 const EMIT: Row = Row::emit(SECOND, 0);
+const ZERO: Row = Row::sum(op::EQ, RESULT, SECOND, Operand::Literal(0));
 const JUMP: &[Row] = &[Row::jump(SECOND, 1), Row::stop()];
 const JUMP_TWICE: &[Row] = &[Row::jump(SECOND, 1), Row::jump(SECOND, 2), Row::stop()];
+const COMPARE_JUMP: &[Row] = &[ZERO, Row::jump(RESULT, 2), Row::stop()];
 const LOAD_JUMP: &[Row] = &[LOAD, Row::jump(RESULT, 2), Row::stop()];
 const CLOSE_WORD: Row = Row::range(op::CLOSE, 0, 4);
 const OPEN_WORD: Row = Row::range(op::OPEN, 0, 4);
@@ -81,6 +83,7 @@ const IN_BLOCK: &str =
 const SUM: &str = "Memcheck clears the sum that is the address, not the register";
 const NOT_CLEARED: &str = "Memcheck clears the condition, not the register that it came from";
 const DECIDED: &str = "a defined 1 bit decides the jump; Memcheck then has nothing to report";
+const COARSE: &str = "document 01's rule of EQ, by which a defined 1 bit doesn't settle it";
 const OUTPUT: &str = "Memcheck reports the bytes that a system call reads and leaves their V";
 const REAL_DATA: &str = "Memcheck lets the real access happen: data of unaddressable bytes";
 const PARTIAL: &str =
@@ -100,6 +103,8 @@ pub const EVENTS: &[Event] = &[
     other("jump-twice", JUMP_TWICE, IN_VALUE, EVERY, [2, !0, VALUE], NOT_CLEARED),
     other("jump-decided", JUMP, IN_VALUE, &[No, Plain, Strict], [1, 0x10, VALUE], NOT_CLEARED),
     other("jump-decided", JUMP, IN_VALUE, &[Auto, Yes], [0, 0x10, VALUE], DECIDED),
+    same("compare-jump-decided", COMPARE_JUMP, IN_RESULT),
+    other("compare-jump-decided", COMPARE_JUMP, IN_RESULT, &[No, Plain, Strict], [1, 1, 0], COARSE),
     other("output", &[EMIT], IN_VALUE, EVERY, [1, 0x10, VALUE], OUTPUT),
     other("output-twice", &[EMIT, EMIT], IN_VALUE, EVERY, [2, 0x10, VALUE], OUTPUT),
     other("unaddressable-load-byte", &[LOAD_BYTE], IN_RESULT, EVERY, [1, 0, 0x11], REAL_DATA),

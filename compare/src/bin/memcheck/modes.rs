@@ -30,12 +30,11 @@ pub const OPTIMISED: &[Mode] = &[No, Auto, Yes];
 
 #[derive(Clone, Copy, PartialEq, Eq)]
 pub enum Request {
-    L4,
     L13,
 }
-use Request::{L13, L4};
+use Request::L13;
 
-pub const REQUESTS: [(&str, Request); 2] = [("L4", L4), ("L13", L13)];
+pub const REQUESTS: [(&str, Request); 1] = [("L13", L13)];
 
 /// What has this name in a table of names.
 pub fn named<T: Copy>(table: &[(&str, T)], name: &str) -> Option<T> {

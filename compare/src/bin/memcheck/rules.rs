@@ -15,15 +15,6 @@ pub fn document_01(c: &Case) -> u32 {
     }
 }
 
-/// Request L4's rule: defined if a bit defined on both sides differs, or if no bit is undefined.
-fn equality(x: u32, v: u32, y: u32, w: u32) -> u32 {
-    u32::from(v | w != 0 && (x ^ y) & !v & !w == 0)
-}
-
-pub fn l4(c: &Case) -> u32 {
-    equality(c.x, c.v, c.y, c.w)
-}
-
 /// Request L13's rule: the lowest and highest operands, and which sum or difference bits move.
 pub fn l13(c: &Case) -> u32 {
     let (low_x, high_x, low_y, high_y) = (c.x & !c.v, c.x | c.v, c.y & !c.w, c.y | c.w);
@@ -42,14 +33,15 @@ pub fn shifted(c: &Case) -> u32 {
     }
 }
 
-/// x below 2^n, taken as x >> n equal to 0 with document 01's EQ rule or with L4's.
+/// x below 2^n, taken as x >> n equal to 0: by document 01's EQ rule, or by L4's, where a defined 1 bit
+/// settles it.
 pub fn high_bits_undefined(c: &Case) -> u32 {
     u32::from(c.v >> c.y.trailing_zeros() != 0)
 }
 
 pub fn high_bits_equality(c: &Case) -> u32 {
     let n = c.y.trailing_zeros();
-    equality(c.x >> n, c.v >> n, 0, 0)
+    u32::from(c.v >> n != 0 && (c.x & !c.v) >> n == 0)
 }
 
 pub fn is_literal_zero(c: &Case) -> bool {
