@@ -71,16 +71,15 @@ differ-small (suc x) (suc y) hx hy = differ-small x y (omega arith) (omega arith
 pub bit-xor : (i a b : ℕ) → bit i (bitXor a b) ≡ differ (bit i a) (bit i b)
 bit-xor = bit-op bitXor differ xor-shr xor-step differ-small
 
--- equal digits do not differ, other ones do
+-- digits are equal exactly if they do not differ
 pub differ-self : (b : ℕ) → differ b b ≡ 0
 differ-self zero = refl
 differ-self (suc b) = differ-self b
 
-pub differ-one : (a b : ℕ) → a < 2 → b < 2 → (a ≡ b → ⊥) → differ a b ≡ 1
-differ-one zero zero ha hb f = absurd (f refl)
-differ-one zero (suc b) ha hb f = omega arith
-differ-one (suc a) zero ha hb f = omega arith
-differ-one (suc a) (suc b) ha hb f = absurd (f (omega arith))
+pub differ-none : (a b : ℕ) → differ a b ≡ 0 → a ≡ b
+differ-none zero b e = sym e
+differ-none (suc a) zero e = e
+differ-none (suc a) (suc b) e = ap suc (differ-none a b e)
 
 -- ---- the low digits
 pub bit-mod : (i k x : ℕ) → i < k → bit i (x % 2 ^ k) ≡ bit i x

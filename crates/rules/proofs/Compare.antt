@@ -1,8 +1,8 @@
--- LTU and EQ: LTU's rule is sound for any test of two words; EQ's is that of a test, but for words that a defined difference tells apart.
+-- LTU and EQ: LTU's rule is sound for any test of two words; EQ's is the same, but where a defined difference tells the words apart.
 use mathlib.Core.Path.{_≡_, refl, sym, ap, ap₂, _∙_, subst₂}
 use mathlib.Core.Logic.{_↔_, ⊎-elim}
 use mathlib.Core.Bool.{Bool, true, false, cond, not, _||_}
-use Prim.Native.Nat.{ℕ, _-_, _^_, _<_, min, max}
+use Prim.Native.Nat.{ℕ, _-_, _^_, _≤_, _<_, min, max}
 use native.Mathlib.Omega.{arith}
 use borrow.Author.Tests.{eqb-true, eqb-false, ne-eqb}
 use lib.Dec.{eqb}
@@ -11,7 +11,7 @@ use Rattle.rules.specs.Word.{bit, inverted, oneIf}
 use Rattle.rules.specs.Actions.{eqOf}
 use Rattle.rules.specs.Shadows.{UifU, PCast, ZWiden, apart, eqV}
 use Rattle.rules.specs.Agreement.{Agree, Alike, Sound}
-use Rattle.rules.proofs.Bits.{cond-lt, bit-lt, bit-zero, zero-or-one, bit-and, bit-or, bit-xor, differ-self, differ-one, bits-equal, bit-not}
+use Rattle.rules.proofs.Bits.{lt-or-ge, cond-lt, bit-zero, bit-high, zero-or-one, bit-and, bit-or, bit-xor, differ-self, differ-none, bits-equal, bit-not}
 use Rattle.rules.proofs.Agreement.{alike-self, alike-undefined, alike-defined, alike-wider}
 
 -- where no bit of either is undefined, both are wholly defined
@@ -35,47 +35,65 @@ test-sound test same x v x′ y w y′ _ a b = alike-wider 32 (omega arith) (go 
     go false e = alike-undefined 1 (small (test x y)) (small (test x′ y′))
 
 -- ---- EQ
--- what `apart` means: a bit of it is set exactly if it is defined on both sides and differs
-pub apart-bit : (i x v y w : ℕ) → i < 32 → v < 2 ^ 32 → w < 2 ^ 32 → (bit i (apart x v y w) ≡ 1) ↔ ((bit i v ≡ 0) × (bit i w ≡ 0) × (bit i x ≡ bit i y → ⊥))
-apart-bit i x v y w hi hv hw = (parts, whole)
-  where
-    rule : bit i (apart x v y w) ≡ min (differ (bit i x) (bit i y)) (1 - max (bit i v) (bit i w))
-    rule =
-        bit-and i (bitXor x y) (inverted (UifU v w))
-        ∙ ap₂ min (bit-xor i x y) (bit-not 32 i (UifU v w) hi (or-lt 32 v w hv hw) ∙ ap (λ (n : ℕ). 1 - n) (bit-or i v w))
-
-    parts : bit i (apart x v y w) ≡ 1 → (bit i v ≡ 0) × (bit i w ≡ 0) × (bit i x ≡ bit i y → ⊥)
-    parts o =
-        let e : min (differ (bit i x) (bit i y)) (1 - max (bit i v) (bit i w)) ≡ 1 = sym rule ∙ o in
-        (omega arith, omega arith, λ s. omega (arith, ap (differ (bit i x)) s, differ-self (bit i x)))
-
-    whole : (bit i v ≡ 0) × (bit i w ≡ 0) × (bit i x ≡ bit i y → ⊥) → bit i (apart x v y w) ≡ 1
-    whole (p, q, f) = rule ∙ omega (arith, p, q, differ-one (bit i x) (bit i y) (bit-lt i x) (bit-lt i y) f)
-
--- words that have such a bit on one machine are unequal on the other
-apart-unequal : {x v x′ y w y′ : ℕ} → Alike 32 v x x′ → Alike 32 w y y′ → eqb (apart x v y w) 0 ≡ false → eqb x′ y′ ≡ false
+-- what `apart` means: it has no bit exactly if the words agree in each bit that is defined on both sides
+pub apart-none : (x v y w : ℕ) → x < 2 ^ 32 → v < 2 ^ 32 → y < 2 ^ 32 → w < 2 ^ 32 → (apart x v y w ≡ 0) ↔ Agree (UifU v w) x y
 unfolding Agree
-apart-unequal {x} {v} {x′} {y} {w} {y′} a b some = ne-eqb x′ y′ (λ e. eqb-false (apart x v y w) 0 some (none e))
+apart-none x v y w hx hv hy hw = (agrees, none)
   where
-    none : x′ ≡ y′ → apart x v y w ≡ 0
-    none e =
-        bits-equal 32 (apart x v y w) 0 (and-lt 32 (bitXor x y) (inverted (UifU v w)) (xor-lt 32 x y (a .first) (b .first)) (omega arith)) (omega arith)
-        (λ i l.
+    at : (i : ℕ) → i < 32 → bit i (apart x v y w) ≡ min (differ (bit i x) (bit i y)) (1 - bit i (UifU v w))
+    at i l = bit-and i (bitXor x y) (inverted (UifU v w)) ∙ ap₂ min (bit-xor i x y) (bit-not 32 i (UifU v w) l (or-lt 32 v w hv hw))
+
+    agrees : apart x v y w ≡ 0 → (i : ℕ) → bit i (UifU v w) ≡ 0 → bit i x ≡ bit i y
+    agrees e i z =
         ⊎-elim
-        (λ (z : bit i (apart x v y w) ≡ 0). z ∙ sym (bit-zero i))
-        (λ (o : bit i (apart x v y w) ≡ 1).
-        let k : (bit i v ≡ 0) × (bit i w ≡ 0) × (bit i x ≡ bit i y → ⊥) = apart-bit i x v y w l (a .shadow) (b .shadow) .0 o in
-        absurd (k .2 (a .agree i (k .0) ∙ ap (bit i) e ∙ sym (b .agree i (k .1)))))
-        (zero-or-one i (apart x v y w)))
+        (λ (l : i < 32). differ-none (bit i x) (bit i y) (omega (arith, bit-differ l)))
+        (λ (l : 32 ≤ i). bit-high 32 i x hx l ∙ sym (bit-high 32 i y hy l))
+        (lt-or-ge i 32)
+      where
+        bit-differ : i < 32 → min (differ (bit i x) (bit i y)) (1 - bit i (UifU v w)) ≡ 0
+        bit-differ l = sym (at i l) ∙ ap (bit i) e ∙ bit-zero i
+
+    none : ((i : ℕ) → bit i (UifU v w) ≡ 0 → bit i x ≡ bit i y) → apart x v y w ≡ 0
+    none same =
+        bits-equal 32 (apart x v y w) 0 (and-lt 32 (bitXor x y) (inverted (UifU v w)) (xor-lt 32 x y hx hy) (omega arith)) (omega arith)
+        (λ i l.
+        at i l
+        ∙ ⊎-elim
+        (λ (z : bit i (UifU v w) ≡ 0). omega (arith, ap (differ (bit i x)) (sym (same i z)), differ-self (bit i x)))
+        (λ (o : bit i (UifU v w) ≡ 1). omega arith)
+        (zero-or-one i (UifU v w))
+        ∙ sym (bit-zero i))
+
+-- what the rule comes to: EQ is undefined exactly if the words agree in each bit that is defined on both sides, and some bit of either is undefined
+pub eq-undefined : (same : Bool) (x v y w : ℕ) → x < 2 ^ 32 → v < 2 ^ 32 → y < 2 ^ 32 → w < 2 ^ 32 → (eqV same x v y w ≡ 1) ↔ (Agree (UifU v w) x y × (UifU v w ≡ 0 → ⊥))
+eq-undefined same x v y w hx hv hy hw = go (eqb (apart x v y w) 0) (eqb (UifU v w) 0) refl refl
+  where
+    none : (apart x v y w ≡ 0) ↔ Agree (UifU v w) x y
+    none = apart-none x v y w hx hv hy hw
+
+    go : (s d : Bool) → eqb (apart x v y w) 0 ≡ s → eqb (UifU v w) 0 ≡ d → (cond {A = ℕ} (not s || d) 0 1 ≡ 1) ↔ (Agree (UifU v w) x y × (UifU v w ≡ 0 → ⊥))
+    go true false s d = (λ _. (none .0 (eqb-true (apart x v y w) 0 s), eqb-false (UifU v w) 0 d), λ _. refl)
+    go true true s d = (λ e. absurd (omega (arith, e)), λ k. absurd (k .1 (eqb-true (UifU v w) 0 d)))
+    go false _ s d = (λ e. absurd (omega (arith, e)), λ k. absurd (eqb-false (apart x v y w) 0 s (none .1 (k .0))))
+
+-- words that are equal on one machine agree on the other in each bit that is defined on both sides
+equal-agree : {v x x′ w y y′ : ℕ} → Alike 32 v x x′ → Alike 32 w y y′ → x′ ≡ y′ → Agree (UifU v w) x y
+unfolding Agree
+equal-agree {v} {x} {x′} {w} {y} {y′} a b e i z =
+    let u : max (bit i v) (bit i w) ≡ 0 = sym (bit-or i v w) ∙ z in
+    a .agree i (omega arith) ∙ ap (bit i) e ∙ sym (b .agree i (omega arith))
 
 pub eq-sound : Sound eqOf eqV
 unfolding Sound
-eq-sound same x v x′ y w y′ one a b = go (eqb (apart x v y w) 0) refl
+eq-sound same x v x′ y w y′ both a b = go (eqb (apart x v y w) 0) refl
   where
+    unequal : {p q : ℕ} → Alike 32 v x p → Alike 32 w y q → eqb (apart x v y w) 0 ≡ false → eqb p q ≡ false
+    unequal {p} {q} c d s = ne-eqb p q (λ e. eqb-false (apart x v y w) 0 s (apart-none x v y w (a .first) (a .shadow) (b .first) (b .shadow) .1 (equal-agree c d e)))
+
     go : (t : Bool) → eqb (apart x v y w) 0 ≡ t → Alike 32 (cond (not t || eqb (UifU v w) 0) 0 1) (eqOf x y) (eqOf x′ y′)
-    go true e = test-sound eqb same x v x′ y w y′ one a b
-    go false e =
-        subst₂ (λ (s s′ : Bool). Alike 32 0 (oneIf s) (oneIf s′))
-        (sym (apart-unequal (alike-self (a .shadow) (a .first)) (alike-self (b .shadow) (b .first)) e))
-        (sym (apart-unequal a b e))
+    go true s = test-sound eqb same x v x′ y w y′ both a b
+    go false s =
+        subst₂ (λ (t t′ : Bool). Alike 32 0 (oneIf t) (oneIf t′))
+        (sym (unequal (alike-self (a .shadow) (a .first)) (alike-self (b .shadow) (b .first)) s))
+        (sym (unequal a b s))
         (alike-self (omega arith) (omega arith))

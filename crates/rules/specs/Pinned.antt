@@ -1,4 +1,4 @@
--- Cases on words, worked out by hand from document 01 (EQ: from 02, L4), as one table. First come those that it pins: all that it marks P, and its product.
+-- Cases on words, worked out by hand from document 01, as 02 amends it, as one table. First come those that it pins: all that it marks P, and its product.
 -- The rest are ours: rows for every operation that the likely slips would break, of its action or of its rule.
 use Prim.Native.Nat.{ℕ}
 use mathlib.Core.Path.{_≡_}
@@ -35,7 +35,6 @@ pinned =
     ∷ does Shl false 1 0 0 0x20 1 allOnes
     ∷ does Shr false 1 0 0 0x20 1 allOnes
     ∷ does Sar false 1 0 0 0x20 1 allOnes
-    -- EQ, as amended by 02, L4: no defined bits differ, and they do
     ∷ does Eq false 0 0x80 0 0 1 1
     ∷ does Eq false 1 0x80 0 0 0 0
     ∷ does Mul false 0xFFFF_FFFF 0 0xFFFF_FFFF 0 1 0
@@ -59,8 +58,11 @@ pinned =
     ∷ does Eq false 0 0 1 0x8000_0000 0 0
     ∷ does Eq false 0 0x80 1 0 0 0
     ∷ does Eq false 0x8000_0000 0x80 0 0 0 0
-    ∷ does Eq false 0x100 0 0 0x80 0 0
+    ∷ does Eq false 0 0x80 0x8000_0000 0 0 0
+    ∷ does Eq false 1 0 0 0x80 0 0
+    ∷ does Eq false 0x0100_0000 0 0 0x80 0 0
     ∷ does Eq false 0 0 0x100 0x80 0 0
+    ∷ does Eq false 0x81 0x80 0 0 0 0
     ∷ does Eq false 0x80 0x80 0 0 0 1
     ∷ does Eq false 0 0 0x80 0x80 0 1
     ∷ does Eq false 0x50 0xF0 0x05 0x0F 0 1
@@ -68,6 +70,8 @@ pinned =
     ∷ does Eq true 7 0x80 7 0x80 1 1
     ∷ does Ltu false 1 0 0x8000_0000 0 1 0
     ∷ does Ltu false 1 0 1 0x8000_0000 0 1
+    ∷ does Ltu false 0 0x80 1 0 1 1
+    ∷ does Ltu false 0 0x80 0x8000_0000 0 1 1
     ∷ does Ltu true 1 1 1 1 0 1
     ∷ []
 

@@ -1,4 +1,4 @@
--- The shadow rules (01, "Shadow rules"; that of EQ 02, L4). v and w are the operands' V words, x and y their data. A V bit is 1 where the data bit is undefined.
+-- The shadow rules (01, "Shadow rules"; EQ: 02, L4). v and w are the operands' V words, x and y their data. A V bit is 1 where the data bit is undefined.
 -- UifU, Left, PCast and ZWiden are the abstract operations of 000, section 2.5; the rules that are made of them are in its section 2.6.
 use Prim.Native.Nat.{ℕ, _-_, _^_}
 use mathlib.Core.Bool.{Bool, cond, not, _||_}
@@ -66,11 +66,11 @@ shrV = shiftV shrOf
 abbrev pub sarV : Rule
 sarV = shiftV sarOf
 
--- the bits that are defined on both sides and differ (`apart-bit` of proofs/Compare.antt shows that they are)
+-- the bits that are defined on both sides and differ (`apart-none` of proofs/Compare.antt shows when there are none)
 abbrev pub apart : ℕ → ℕ → ℕ → ℕ → ℕ
 apart x v y w = bitAnd (bitXor x y) (inverted (UifU v w))
 
--- EQ (02, L4; 002, 3.3.4): V 0 if some bit is defined on both sides and differs, or if no bit of either is undefined; otherwise V 1
+-- EQ (02, L4; 002, 3.3.4): V 0 if some bit is defined on both sides and differs, or if no bit of either is undefined; otherwise V 1 (`eq-undefined` shows when)
 abbrev pub eqV : Rule
 eqV same x v y w = cond (not (eqb (apart x v y w) 0) || eqb (UifU v w) 0) 0 1
 

@@ -10,7 +10,7 @@ use rules::Shadow;
 // An operation, whether both operands are one register, and x, v, y and w.
 struct Case(Operation, bool, u32, u32, u32, u32);
 
-const CASES: usize = 43;
+const CASES: usize = 48;
 
 // The rows of rules/specs/Pinned.antt: first those that document 01 pins, as 02 amends them.
 const TABLE: [Case; CASES] = [
@@ -62,8 +62,11 @@ const TABLE: [Case; CASES] = [
     Case(Operation::Eq, false, 0, 0, 1, 0x8000_0000),
     Case(Operation::Eq, false, 0, 0x80, 1, 0),
     Case(Operation::Eq, false, 0x8000_0000, 0x80, 0, 0),
-    Case(Operation::Eq, false, 0x100, 0, 0, 0x80),
+    Case(Operation::Eq, false, 0, 0x80, 0x8000_0000, 0),
+    Case(Operation::Eq, false, 1, 0, 0, 0x80),
+    Case(Operation::Eq, false, 0x0100_0000, 0, 0, 0x80),
     Case(Operation::Eq, false, 0, 0, 0x100, 0x80),
+    Case(Operation::Eq, false, 0x81, 0x80, 0, 0),
     Case(Operation::Eq, false, 0x80, 0x80, 0, 0),
     Case(Operation::Eq, false, 0, 0, 0x80, 0x80),
     Case(Operation::Eq, false, 0x50, 0xf0, 0x05, 0x0f),
@@ -71,6 +74,8 @@ const TABLE: [Case; CASES] = [
     Case(Operation::Eq, true, 7, 0x80, 7, 0x80),
     Case(Operation::Ltu, false, 1, 0, 0x8000_0000, 0),
     Case(Operation::Ltu, false, 1, 0, 1, 0x8000_0000),
+    Case(Operation::Ltu, false, 0, 0x80, 1, 0),
+    Case(Operation::Ltu, false, 0, 0x80, 0x8000_0000, 0),
     Case(Operation::Ltu, true, 1, 1, 1, 1),
 ];
 

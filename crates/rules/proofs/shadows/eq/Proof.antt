@@ -3,4 +3,10 @@ use Rattle.rules.proofs.shadows.eq.Statement.{statement}
 use Rattle.rules.proofs.shadows.eq.Tie as tie
 
 pub eq-spec : {M : Type 1} → statement M
-eq-spec = tie.close (tie.spec (λ c κs. search needs) (λ c κs. search needs) (λ c κs. search needs) (λ c. cc))
+eq-spec =
+    tie.close
+    (tie.spec
+    (λ c κs. search needs)
+    (λ c κs. search needs)
+    (λ c κs. search needs)
+    (λ c. let a : tie.After-apart = search in let u : tie.After-uifu = search in simp (a .apart .ensures, u .uifu .ensures, c .select .ensures)))
