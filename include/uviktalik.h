@@ -48,8 +48,8 @@ extern "C" {
  * program that was compiled for another version does not link (undefined reference to
  * `uviktalik_run_..') instead of writing past its buffers. The machine's rules are not in it: under
  * the same version another library may have more instructions, refusals, stop reasons and kinds of
- * report. A program that loads the library while it runs asks for the symbols below by their whole
- * names.
+ * report, and finer rules for V bits, by which it reports less. A program that loads the library
+ * while it runs asks for the symbols below by their whole names.
  */
 #define UVIKTALIK_VERSION 1
 #define uviktalik_read uviktalik_read_1
