@@ -1,4 +1,4 @@
--- Cases on words, worked out by hand from document 01, as 02 amends it, as one table. First come those that it pins: all that it marks P, and its product.
+-- Cases on words, worked out by hand from document 01, for EQ as 02, L4 amends it, in one table. First come those that it pins: all that it marks P, and its product.
 -- The rest are ours: rows for every operation that the likely slips would break, of its action or of its rule.
 use Prim.Native.Nat.{ℕ}
 use mathlib.Core.Path.{_≡_}

@@ -12,7 +12,7 @@ struct Case(Operation, bool, u32, u32, u32, u32);
 
 const CASES: usize = 48;
 
-// The rows of rules/specs/Pinned.antt: first those that document 01 pins, as 02 amends them.
+// The rows of rules/specs/Pinned.antt: first those that document 01 pins, EQ's as 02 amends it.
 const TABLE: [Case; CASES] = [
     Case(Operation::Add, false, 0, 0x100, 0, 0),
     Case(Operation::And, false, 0xf, 0, 0xffff_ffff, 0xffff_ffff),

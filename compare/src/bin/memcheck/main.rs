@@ -19,7 +19,7 @@ use crate::machine::ENGINE;
 use crate::modes::{named, MODES, REQUESTS};
 
 /// Takes the arguments: `no=FILE auto=FILE yes=FILE plain=FILE strict=FILE`, the lines of each
-/// mode, and the requests of document 02 to come that the checker has (`L13`).
+/// mode, and those requests of document 02 that the rows know of and the checker has (`L13`).
 fn compare_all(arguments: &[String]) -> Result<Comparison, String> {
     let mut all = Comparison::default();
     all.landed.extend(arguments.iter().filter_map(|word| named(&REQUESTS, word)));
