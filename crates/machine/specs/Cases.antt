@@ -96,7 +96,7 @@ cases =
     -- operations write data and V; a register with itself is told from one with a literal
     ∷ quietly (Move 1 (Register 0)) (four (8 ∷ 7 ∷ []) (3 ∷ 9 ∷ []) bytes defined) [] (four (8 ∷ 8 ∷ []) (3 ∷ 3 ∷ []) bytes defined)
     ∷ quietly (Move 1 (Literal (record { 0 = 5 }))) (four (8 ∷ 7 ∷ []) (3 ∷ 9 ∷ []) bytes defined) [] (four (8 ∷ 5 ∷ []) (3 ∷ 0 ∷ []) bytes defined)
-    ∷ quietly (Compute Add 1 0 (Register 1)) (four (8 ∷ 7 ∷ []) (0x100 ∷ 0 ∷ []) bytes defined) [] (four (8 ∷ 15 ∷ []) (0x100 ∷ 0xFFFF_FF00 ∷ []) bytes defined)
+    ∷ quietly (Compute Add 1 0 (Register 1)) (four (8 ∷ 7 ∷ []) (0x100 ∷ 0 ∷ []) bytes defined) [] (four (8 ∷ 15 ∷ []) (0x100 ∷ 0x100 ∷ []) bytes defined)
     ∷ quietly (Compute Xor 1 0 (Register 0)) (four (8 ∷ 7 ∷ []) (0x100 ∷ 0 ∷ []) bytes defined) [] (four (8 ∷ 0 ∷ []) (0x100 ∷ 0 ∷ []) bytes defined)
     ∷ quietly (Compute Xor 1 0 (Literal (record { 0 = 8 }))) (four (8 ∷ 7 ∷ []) (0x100 ∷ 0 ∷ []) bytes defined) [] (four (8 ∷ 0 ∷ []) (0x100 ∷ 0x100 ∷ []) bytes defined)
     ∷ []

@@ -6,9 +6,9 @@ use native.Mathlib.Nat.{lt-of-lt-of-le}
 use native.Mathlib.Omega.{arith}
 use lib.Pow.{pow-mono, ones-lt}
 use lib.Bits.{bitOr, or-lt}
-use Rattle.rules.specs.Word.{bit}
+use Rattle.rules.specs.Word.{bit, inverted}
 use Rattle.rules.specs.Agreement.{Agree, Alike}
-use Rattle.rules.proofs.Bits.{lt-or-ge, bit-zero, bit-high, bit-or, bit-ones, bits-equal}
+use Rattle.rules.proofs.Bits.{lt-or-ge, bit-zero, bit-high, bit-or, bit-not, bit-ones, bits-equal}
 
 -- it is enough to look at the n low bits
 pub alike-below : (n : ℕ) {v x x′ : ℕ} → v < 2 ^ n → x < 2 ^ n → x′ < 2 ^ n → ((i : ℕ) → i < n → bit i v ≡ 0 → bit i x ≡ bit i x′) → Alike n v x x′
@@ -25,6 +25,10 @@ alike-below n {v} {x} {x′} hv hx hx′ same =
 pub alike-self : {n v x : ℕ} → v < 2 ^ n → x < 2 ^ n → Alike n v x x
 alike-self {n} hv hx = alike-below n hv hx hx (λ i l z. refl)
 
+pub alike-swapped : {n v x x′ : ℕ} → Alike n v x x′ → Alike n v x′ x
+unfolding Agree
+alike-swapped a = record { shadow = a .shadow; first = a .second; second = a .first; agree = λ i z. sym (a .agree i z) }
+
 -- wholly undefined numbers agree
 pub alike-undefined : (n : ℕ) {x x′ : ℕ} → x < 2 ^ n → x′ < 2 ^ n → Alike n (2 ^ n - 1) x x′
 alike-undefined n hx hx′ = alike-below n (ones-lt n) hx hx′ (λ i l z. absurd (omega (arith, bit-ones n i l)))
@@ -34,6 +38,13 @@ pub alike-defined : {n v x x′ : ℕ} → Alike n v x x′ → v ≡ 0 → x �
 unfolding Agree
 alike-defined {n} {v} {x} {x′} a e =
     bits-equal n x x′ (a .first) (a .second) (λ i l. a .agree i (ap (bit i) e ∙ bit-zero i))
+
+-- inverted words agree too
+pub alike-inverted : {v x x′ : ℕ} → Alike 32 v x x′ → Alike 32 v (inverted x) (inverted x′)
+unfolding Agree
+alike-inverted {v} {x} {x′} a =
+    alike-below 32 (a .shadow) (omega arith) (omega arith)
+    (λ i l z. bit-not 32 i x l (a .first) ∙ ap (λ (b : ℕ). 1 - b) (a .agree i z) ∙ sym (bit-not 32 i x′ l (a .second)))
 
 -- ZWiden: at a greater width
 pub alike-wider : {n v x x′ : ℕ} (m : ℕ) → n ≤ m → Alike n v x x′ → Alike m v x x′

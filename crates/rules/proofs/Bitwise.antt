@@ -1,7 +1,7 @@
 -- AND, OR and XOR, bit by bit: their rules are sound.
 use mathlib.Core.Path.{_≡_, refl, sym, ap, ap₂, _∙_, subst₂}
 use mathlib.Core.Bool.{Bool, true, false}
-use Prim.Native.Nat.{ℕ, zero, suc, _-_, _^_, _<_, min, max}
+use Prim.Native.Nat.{ℕ, zero, suc, _^_, _<_, min, max}
 use native.Mathlib.Omega.{arith}
 use lib.Bits.{bitAnd, bitOr, bitXor, differ, and-lt, or-lt, xor-lt, xor-self}
 use Rattle.rules.specs.Word.{bit, inverted}
@@ -9,7 +9,7 @@ use Rattle.rules.specs.Actions.{andOf, orOf, xorOf}
 use Rattle.rules.specs.Shadows.{UifU, andV, orV, xorV}
 use Rattle.rules.specs.Agreement.{Agree, Alike, Sound}
 use Rattle.rules.proofs.Bits.{bit-lt, bit-and, bit-or, bit-xor, bits-equal, bit-not}
-use Rattle.rules.proofs.Agreement.{alike-below, alike-self, alike-bitwise}
+use Rattle.rules.proofs.Agreement.{alike-self, alike-inverted, alike-bitwise}
 
 -- ---- AND
 -- a defined 0 settles the bit, whatever the other operand is
@@ -47,13 +47,6 @@ and-sound same x v x′ y w y′ _ a b =
     }
 
 -- ---- OR, by AND
--- inverted words agree too
-alike-inverted : {v x x′ : ℕ} → Alike 32 v x x′ → Alike 32 v (inverted x) (inverted x′)
-unfolding Agree
-alike-inverted {v} {x} {x′} a =
-    alike-below 32 (a .shadow) (omega arith) (omega arith)
-    (λ i l z. bit-not 32 i x l (a .first) ∙ ap (λ (b : ℕ). 1 - b) (a .agree i z) ∙ sym (bit-not 32 i x′ l (a .second)))
-
 -- an OR is the inverse of the AND of the inverses
 or-by-and : (x y : ℕ) → x < 2 ^ 32 → y < 2 ^ 32 → inverted (andOf (inverted x) (inverted y)) ≡ orOf x y
 or-by-and x y hx hy =

@@ -1,16 +1,19 @@
 -- ADD, SUB and MUL: an operation whose low bits depend on the operands' low bits alone is sound under Left.
 use mathlib.Core.Path.{_≡_, refl, sym, ap, ap₂, _∙_, subst}
-use mathlib.Core.Logic.{_↔_}
+use mathlib.Core.Logic.{_↔_, ⊎-elim}
+use mathlib.Core.Bool.{Bool, true}
 use Prim.Native.Nat.{ℕ, suc, _+_, _-_, _*_, _%_, _^_, _≤_, _<_, max}
 use native.Mathlib.Nat.{mod-lt, mod-eq-of-lt, add-mod, pow-suc}
 use native.Mathlib.Omega.{arith}
+use borrow.Author.Tests.{eqb-true}
 use lib.Pow.{pow-pos}
 use lib.Bits.{or-lt}
+use lib.Dec.{eqb}
 use Rattle.rules.specs.Word.{bit, wrapped, negated}
 use Rattle.rules.specs.Actions.{addOf, subOf, mulOf}
-use Rattle.rules.specs.Shadows.{UifU, Left}
-use Rattle.rules.specs.Agreement.{Agree, Sound}
-use Rattle.rules.proofs.Bits.{bit-zero, bit-or, bit-mod, bit-same, low-suc, low-same}
+use Rattle.rules.specs.Shadows.{Rule, UifU, Left, leftV, mulV}
+use Rattle.rules.specs.Agreement.{Agree, Alike, Sound, Within}
+use Rattle.rules.proofs.Bits.{bit-zero, zero-or-one, bit-or, bit-mod, bit-same, low-suc, low-same, bits-equal}
 use Rattle.rules.proofs.Agreement.{alike-below}
 use Rattle.rules.proofs.Congruence.{wrapped-lt, add-same, mul-same, rest-same, wrapped-low}
 
@@ -58,17 +61,17 @@ left-clear i v hi hv = (low, clear)
         bit-or i v (negated v)
         ∙ ap₂ max (bit-same i v 0 (z ∙ sym none) ∙ bit-zero i) (bit-same i (negated v) 0 (wrapped-low (suc i) (2 ^ 32 - v) hi ∙ rest ∙ sym whole) ∙ bit-zero i)
 
--- Left makes no bit undefined where none was, so that the rules may pass it by (02, L3)
-pub left-none : Left 0 ≡ 0
-left-none = refl
-
 pub left-below : (i j v : ℕ) → i < 32 → j < suc i → v < 2 ^ 32 → bit i (Left v) ≡ 0 → bit j v ≡ 0
 left-below i j v hi hj hv z = sym (bit-mod j (suc i) v hj) ∙ ap (bit j) (left-clear i v hi hv .0 z) ∙ bit-zero j
 
-pub carries-sound : (f : ℕ → ℕ → ℕ) → Carries f → ((x y : ℕ) → f x y < 2 ^ 32) → Sound f (λ same x v y w. Left (UifU v w))
-unfolding Sound Carries Agree
-carries-sound f carries range same x v x′ y w y′ _ a b =
-    alike-below 32 (or-lt 32 (UifU v w) (negated (UifU v w)) u-lt (wrapped-lt (2 ^ 32 - UifU v w))) (range x y) (range x′ y′)
+left-lt : {u : ℕ} → u < 2 ^ 32 → Left u < 2 ^ 32
+left-lt {u} h = or-lt 32 u (negated u) h (wrapped-lt (2 ^ 32 - u))
+
+-- operands that are alike give results that are alike under Left
+pub carries-alike : (f : ℕ → ℕ → ℕ) → Carries f → ((x y : ℕ) → f x y < 2 ^ 32) → {v x x′ w y y′ : ℕ} → Alike 32 v x x′ → Alike 32 w y y′ → Alike 32 (Left (UifU v w)) (f x y) (f x′ y′)
+unfolding Carries Agree
+carries-alike f carries range {v} {x} {x′} {w} {y} {y′} a b =
+    alike-below 32 (left-lt u-lt) (range x y) (range x′ y′)
     (λ i l z.
     bit-same i (f x y) (f x′ y′)
     (carries (suc i) x x′ y y′ l (b .first) (b .second)
@@ -80,3 +83,30 @@ carries-sound f carries range same x v x′ y w y′ _ a b =
 
     both : (i j : ℕ) → i < 32 → j < suc i → bit i (Left (UifU v w)) ≡ 0 → max (bit j v) (bit j w) ≡ 0
     both i j l h z = sym (bit-or j v w) ∙ left-below i j (UifU v w) l h u-lt z
+
+pub carries-sound : (f : ℕ → ℕ → ℕ) → Carries f → ((x y : ℕ) → f x y < 2 ^ 32) → Sound f leftV
+unfolding Sound
+carries-sound f carries range same x v x′ y w y′ _ a b = carries-alike f carries range a b
+
+-- ---- the short cut (02, L3)
+left-none : Left 0 ≡ 0
+left-none = refl
+
+-- where no bit of either is undefined, a rule within Left calls none so
+pub within-none : (rule : Rule) → Within rule leftV → (same : Bool) {x v y w : ℕ} → x < 2 ^ 32 → v < 2 ^ 32 → y < 2 ^ 32 → w < 2 ^ 32 → rule same x v y w < 2 ^ 32
+    → {t : Bool} → t ≡ eqb (UifU v w) 0 → t ≡ true → 0 ≡ rule same x v y w
+unfolding Within
+within-none rule within same {x} {v} {y} {w} hx hv hy hw hr d e =
+    bits-equal 32 0 (rule same x v y w) (omega arith) hr
+    (λ i l.
+    ⊎-elim
+    (λ (z : bit i (rule same x v y w) ≡ 0). bit-zero i ∙ sym z)
+    (λ (o : bit i (rule same x v y w) ≡ 1). absurd (omega (arith, within same x v y w i hx hv hy hw o, clear i)))
+    (zero-or-one i (rule same x v y w)))
+  where
+    clear : (i : ℕ) → bit i (Left (UifU v w)) ≡ 0
+    clear i = ap (λ (u : ℕ). bit i (Left u)) (eqb-true (UifU v w) 0 (sym d ∙ e)) ∙ ap (bit i) left-none ∙ bit-zero i
+
+pub mul-none : (same : Bool) {x v y w : ℕ} → x < 2 ^ 32 → v < 2 ^ 32 → y < 2 ^ 32 → w < 2 ^ 32 → {t : Bool} → t ≡ eqb (UifU v w) 0 → t ≡ true → 0 ≡ mulV same x v y w
+unfolding Within
+mul-none same {x} {v} {y} {w} hx hv hy hw = within-none mulV (λ _ _ _ _ _ _ _ _ _ _ o. o) same hx hv hy hw (left-lt (or-lt 32 v w hv hw))

@@ -4,6 +4,7 @@ pub mod Congruence
 pub mod Agreement
 pub mod ByteLaws
 pub mod Carry
+pub mod Sum
 pub mod Bitwise
 pub mod Shift
 pub mod Compare

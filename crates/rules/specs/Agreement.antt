@@ -1,4 +1,4 @@
--- When two numbers agree in what a shadow calls defined, and when a shadow rule is sound. This is the ground of demand 3.
+-- When two numbers agree in what a shadow calls defined, when a shadow rule is sound, which is the ground of demand 3, and when it is no coarser than another.
 use Prim.Native.Nat.{ℕ, _^_, _<_}
 use mathlib.Core.Path.{_≡_}
 use mathlib.Core.Bool.{Bool, true}
@@ -25,3 +25,14 @@ Sound f rule =
     → Alike 32 v x x′
     → Alike 32 w y y′
     → Alike 32 (rule same x v y w) (f x y) (f x′ y′)
+
+-- a rule is no coarser than another: a bit that it calls undefined is undefined under the other
+unfoldable pub Within : Rule → Rule → Type 0
+Within rule other =
+    (same : Bool) (x v y w i : ℕ)
+    → x < 2 ^ 32
+    → v < 2 ^ 32
+    → y < 2 ^ 32
+    → w < 2 ^ 32
+    → bit i (rule same x v y w) ≡ 1
+    → bit i (other same x v y w) ≡ 1

@@ -1,4 +1,4 @@
--- Cases on words, worked out by hand from document 01, for EQ as 02, L4 amends it, in one table. First come those that it pins: all that it marks P, and its product.
+-- Cases on words, worked out by hand from document 01, for ADD, SUB and EQ as 02 amends it (L13, L4), in one table. First come those that it pins: all that it marks P, and its product.
 -- The rest are ours: rows for every operation that the likely slips would break, of its action or of its rule.
 use Prim.Native.Nat.{ℕ}
 use mathlib.Core.Path.{_≡_}
@@ -21,7 +21,7 @@ pub data Row : Type 0 where
 -- a word that 01 leaves free is chosen here
 abbrev pub pinned : List Row
 pinned =
-    does Add false 0 0x100 0 0 0 0xFFFF_FF00
+    does Add false 0 0x100 0 0 0 0x100
     ∷ left 0 0
     ∷ left 0x8000_0000 0x8000_0000
     ∷ does And false 0xF 0 0xFFFF_FFFF allOnes 0xF 0xF
@@ -41,8 +41,23 @@ pinned =
     -- ours
     ∷ moves 0xDEAD_BEEF 0x0F0F_0F0F 0xDEAD_BEEF 0x0F0F_0F0F
     ∷ does Add false 0xFFFF_FFFF 0 0x8000_0001 0 0x8000_0000 0
-    ∷ does Add false 0 0 0 0x100 0 0xFFFF_FF00
-    ∷ does Sub false 0 0 1 0x10 0xFFFF_FFFF 0xFFFF_FFF0
+    ∷ does Add false 0 0 0 0x100 0 0x100
+    ∷ does Add false 0x36 2 0xA 0 0x40 0x7E
+    ∷ does Add false 0xFFFF_FE00 0x100 0x100 0 0xFFFF_FF00 0xFFFF_FF00
+    ∷ does Add false 0x1234_5678 0xFF00 0x100 0 0x1234_5778 0x0001_FF00
+    ∷ does Add false 5 1 2 4 7 0xD
+    ∷ does Add false 0 0x10 0 0x10 0 0x30
+    ∷ does Add false 0 0x8000_0000 0x8000_0000 0 0x8000_0000 0x8000_0000
+    ∷ does Add false 0 0x8000_0000 0 0x8000_0000 0 0x8000_0000
+    ∷ does Add true 1 1 1 1 2 3
+    ∷ does Sub false 0 0 1 0x10 0xFFFF_FFFF 0x10
+    ∷ does Sub false 0 0 0 0x10 0 0xFFFF_FFF0
+    ∷ does Sub false 0x40 0 2 2 0x3E 0x7E
+    ∷ does Sub false 0x12 2 2 0 0x10 0x1E
+    ∷ does Sub false 6 2 1 4 5 0xFFFF_FFFE
+    ∷ does Sub false 0 0 0 0x8000_0000 0 0x8000_0000
+    ∷ does Sub false 0 0x8000_0000 0 0x8000_0000 0 0x8000_0000
+    ∷ does Sub true 0 1 0 1 0 allOnes
     ∷ does Sub true 5 0x10 5 0x10 0 0xFFFF_FFF0
     ∷ does Mul false 3 0x8000_0000 5 0 0xF 0x8000_0000
     ∷ does Mul false 0 0 5 1 0 allOnes

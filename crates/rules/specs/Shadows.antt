@@ -1,11 +1,11 @@
--- The shadow rules (01, "Shadow rules"; EQ: 02, L4). v and w are the operands' V words, x and y their data. A V bit is 1 where the data bit is undefined.
+-- The shadow rules (01, "Shadow rules"; ADD and SUB: 02, L13; EQ: 02, L4). v and w are the operands' V words, x and y their data. A V bit is 1 where the data bit is undefined.
 -- UifU, Left, PCast and ZWiden are the abstract operations of 000, section 2.5; the rules that are made of them are in its section 2.6.
 use Prim.Native.Nat.{ℕ, _-_, _^_}
 use mathlib.Core.Bool.{Bool, cond, not, _||_}
 use lib.Bits.{bitAnd, bitOr, bitXor}
 use lib.Dec.{eqb}
 use Rattle.rules.specs.Word.{allOnes, inverted, negated}
-use Rattle.rules.specs.Actions.{shlOf, shrOf, sarOf}
+use Rattle.rules.specs.Actions.{addOf, subOf, shlOf, shrOf, sarOf}
 
 -- undefined where either is
 abbrev pub UifU : ℕ → ℕ → ℕ
@@ -31,15 +31,28 @@ Rule = Bool → ℕ → ℕ → ℕ → ℕ → ℕ
 abbrev pub movV : ℕ → ℕ
 movV v = v
 
--- ADD, SUB, MUL (01; 000, 2.6, addition and subtraction): carries may reach every bit above
+-- Left of both: carries may reach every bit above (01's rule for ADD, SUB and MUL; 000, 2.6, addition and subtraction)
+abbrev pub leftV : Rule
+leftV same x v y w = Left (UifU v w)
+
+-- an operand's data with its undefined bits 0, and with them 1: the least and the greatest word that it can be (02, L13)
+abbrev pub low : ℕ → ℕ → ℕ
+low x v = bitAnd x (inverted v)
+
+abbrev pub high : ℕ → ℕ → ℕ
+high x v = bitOr x v
+
+-- ADD (02, L13; 000, 2.8, asks for it): undefined where either is, and where the sums of the least and of the greatest operands differ
 abbrev pub addV : Rule
-addV same x v y w = Left (UifU v w)
+addV same x v y w = bitOr (UifU v w) (bitXor (addOf (low x v) (low y w)) (addOf (high x v) (high y w)))
 
+-- SUB (02, L13): likewise, of the least operand less the greatest and of the greatest less the least
 abbrev pub subV : Rule
-subV same x v y w = Left (UifU v w)
+subV same x v y w = bitOr (UifU v w) (bitXor (subOf (low x v) (high y w)) (subOf (high x v) (low y w)))
 
+-- MUL (01) keeps Left
 abbrev pub mulV : Rule
-mulV same x v y w = Left (UifU v w)
+mulV = leftV
 
 -- AND (01; 000, 2.6): a defined 0 on either side settles the bit. 002's table has no term for v and y together, and is not used.
 abbrev pub andV : Rule

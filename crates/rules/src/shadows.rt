@@ -1,15 +1,17 @@
-// The shadow rules (document 01, "Shadow rules"; EQ: 02, L4). The first three functions are abstract operations
+// The shadow rules (document 01, "Shadow rules"; ADD and SUB: 02, L13; EQ: 02, L4). The first three functions are abstract operations
 // of the Memcheck paper, under its names; ZWiden is in bytes.rt. The rules of the operations on two
 // operands have one signature: same says that both operands are one register; x and y are their data,
 // v and w their V words. A rule may leave some of these unread.
 use super::Data;
 use super::Shadow;
+use super::actions;
 use super::words;
 ghost use mathlib.Core.Path.{_≡_};
 ghost use mathlib.Core.Bool.{cond};
+ghost use lib.Bits.{bitOr, bitXor};
 ghost use lib.Dec.{eqb};
 ghost use Rattle.rules.specs.Word.{allOnes};
-ghost use Rattle.rules.specs.Shadows.{UifU, Left, PCast, movV, addV, subV, mulV, andV, orV, xorV, shlV, shrV, sarV, apart, eqV, ltuV};
+ghost use Rattle.rules.specs.Shadows.{UifU, Left, PCast, low, high, movV, addV, subV, mulV, andV, orV, xorV, shlV, shrV, sarV, apart, eqV, ltuV};
 
 // UifU: undefined where either is.
 pub fn uifu(v: Shadow, w: Shadow) -> Shadow
@@ -32,13 +34,32 @@ pub fn pcast_bit(v: Shadow) -> Shadow
     Shadow(words::select(v.0 == 0, 0, 1))
 }
 
-// An undefined bit of either operand reaches every bit above it by carries. Most operands have none
-// (02, L3).
-fn carried(v: Shadow, w: Shadow) -> Shadow
-    ensures { λ r. ⌜ r .0 ≡ Left (UifU (v .0) (w .0)) ⌝ }
+// No bit of either operand is undefined, as with most operands.
+fn both_defined(v: Shadow, w: Shadow) -> bool
+    ensures { λ r. ⌜ r ≡ eqb (UifU (v .0) (w .0)) 0 ⌝ }
 {
-    let u = uifu(v, w);
-    if u.0 == 0 { Shadow(0) } else { left(u) }
+    uifu(v, w).0 == 0
+}
+
+// The least word that an operand can be: its data with the undefined bits 0.
+fn low(x: Data, v: Shadow) -> Data
+    ensures { λ r. ⌜ r .0 ≡ low (x .0) (v .0) ⌝ }
+{
+    Data(x.0 & !v.0)
+}
+
+// The greatest: its data with the undefined bits 1.
+fn high(x: Data, v: Shadow) -> Data
+    ensures { λ r. ⌜ r .0 ≡ high (x .0) (v .0) ⌝ }
+{
+    Data(x.0 | v.0)
+}
+
+// Undefined where either operand is, and where the results at both ends of what the operands can be differ.
+fn spread(v: Shadow, w: Shadow, least: Data, greatest: Data) -> Shadow
+    ensures { λ r. ⌜ r .0 ≡ bitOr (UifU (v .0) (w .0)) (bitXor (least .0) (greatest .0)) ⌝ }
+{
+    Shadow(uifu(v, w).0 | (least.0 ^ greatest.0))
 }
 
 // The bits that are defined on both sides and differ.
@@ -62,22 +83,39 @@ pub fn mov(v: Shadow) -> Shadow
     v
 }
 
+// ADD, SUB and MUL give V 0 at once where no bit of either operand is undefined (02, L3).
 pub fn add(same: bool, x: Data, v: Shadow, y: Data, w: Shadow) -> Shadow
     ensures { λ r. ⌜ r .0 ≡ addV same (x .0) (v .0) (y .0) (w .0) ⌝ }
 {
-    carried(v, w)
+    if both_defined(v, w) {
+        Shadow(0)
+    } else {
+        let least = actions::add(low(x, v), low(y, w));
+        let greatest = actions::add(high(x, v), high(y, w));
+        spread(v, w, least, greatest)
+    }
 }
 
 pub fn sub(same: bool, x: Data, v: Shadow, y: Data, w: Shadow) -> Shadow
     ensures { λ r. ⌜ r .0 ≡ subV same (x .0) (v .0) (y .0) (w .0) ⌝ }
 {
-    carried(v, w)
+    if both_defined(v, w) {
+        Shadow(0)
+    } else {
+        let least = actions::sub(low(x, v), high(y, w));
+        let greatest = actions::sub(high(x, v), low(y, w));
+        spread(v, w, least, greatest)
+    }
 }
 
 pub fn mul(same: bool, x: Data, v: Shadow, y: Data, w: Shadow) -> Shadow
     ensures { λ r. ⌜ r .0 ≡ mulV same (x .0) (v .0) (y .0) (w .0) ⌝ }
 {
-    carried(v, w)
+    if both_defined(v, w) {
+        Shadow(0)
+    } else {
+        left(uifu(v, w))
+    }
 }
 
 pub fn and(same: bool, x: Data, v: Shadow, y: Data, w: Shadow) -> Shadow
@@ -120,7 +158,7 @@ pub fn eq(same: bool, x: Data, v: Shadow, y: Data, w: Shadow) -> Shadow
     ensures { λ r. ⌜ r .0 ≡ eqV same (x .0) (v .0) (y .0) (w .0) ⌝ }
 {
     let settled = apart(x, v, y, w) != 0;
-    let defined = uifu(v, w).0 == 0;
+    let defined = both_defined(v, w);
     Shadow(words::select(settled | defined, 0, 1))
 }
 

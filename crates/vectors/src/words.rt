@@ -10,9 +10,9 @@ use rules::Shadow;
 // An operation, whether both operands are one register, and x, v, y and w.
 struct Case(Operation, bool, u32, u32, u32, u32);
 
-const CASES: usize = 48;
+const CASES: usize = 63;
 
-// The rows of rules/specs/Pinned.antt: first those that document 01 pins, EQ's as 02 amends it.
+// The rows of rules/specs/Pinned.antt: first those that document 01 pins, ADD's and EQ's as 02 amends it.
 const TABLE: [Case; CASES] = [
     Case(Operation::Add, false, 0, 0x100, 0, 0),
     Case(Operation::And, false, 0xf, 0, 0xffff_ffff, 0xffff_ffff),
@@ -39,7 +39,22 @@ const TABLE: [Case; CASES] = [
     // ours
     Case(Operation::Add, false, 0xffff_ffff, 0, 0x8000_0001, 0),
     Case(Operation::Add, false, 0, 0, 0, 0x100),
+    Case(Operation::Add, false, 0x36, 2, 0xa, 0),
+    Case(Operation::Add, false, 0xffff_fe00, 0x100, 0x100, 0),
+    Case(Operation::Add, false, 0x1234_5678, 0xff00, 0x100, 0),
+    Case(Operation::Add, false, 5, 1, 2, 4),
+    Case(Operation::Add, false, 0, 0x10, 0, 0x10),
+    Case(Operation::Add, false, 0, 0x8000_0000, 0x8000_0000, 0),
+    Case(Operation::Add, false, 0, 0x8000_0000, 0, 0x8000_0000),
+    Case(Operation::Add, true, 1, 1, 1, 1),
     Case(Operation::Sub, false, 0, 0, 1, 0x10),
+    Case(Operation::Sub, false, 0, 0, 0, 0x10),
+    Case(Operation::Sub, false, 0x40, 0, 2, 2),
+    Case(Operation::Sub, false, 0x12, 2, 2, 0),
+    Case(Operation::Sub, false, 6, 2, 1, 4),
+    Case(Operation::Sub, false, 0, 0, 0, 0x8000_0000),
+    Case(Operation::Sub, false, 0, 0x8000_0000, 0, 0x8000_0000),
+    Case(Operation::Sub, true, 0, 1, 0, 1),
     Case(Operation::Sub, true, 5, 0x10, 5, 0x10),
     Case(Operation::Mul, false, 3, 0x8000_0000, 5, 0),
     Case(Operation::Mul, false, 0, 0, 5, 1),

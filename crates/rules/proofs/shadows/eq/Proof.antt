@@ -9,4 +9,4 @@ eq-spec =
     (λ c κs. search needs)
     (λ c κs. search needs)
     (λ c κs. search needs)
-    (λ c. let a : tie.After-apart = search in let u : tie.After-uifu = search in simp (a .apart .ensures, u .uifu .ensures, c .select .ensures)))
+    (λ c. let a : tie.After-apart = search in let d : tie.After-both-defined = search in simp (a .apart .ensures, d .both-defined .ensures, c .select .ensures)))
