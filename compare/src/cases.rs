@@ -167,6 +167,22 @@ fn from_state(prng: &mut Prng, image: &Image) -> Case {
     Case { desk, calls }
 }
 
+/// Runs of one step each, from words of which few bits are undefined or none.
+fn sums_one_by_one(prng: &mut Prng) -> Case {
+    let image = programs::sums(prng);
+    let mut case = from_state(prng, &image);
+    for v in &mut case.desk.state.vregs {
+        match prng.below(3) {
+            0 => *v = 0,
+            1 => *v = 1 << prng.below(32),
+            _ => {}
+        }
+    }
+    case.calls.truncate(1);
+    case.calls.resize(1 + prng.between(1, 8) as usize, Call::Run(Budget::Exactly(1)));
+    case
+}
+
 fn wrong_length(prng: &mut Prng, buffer: &mut Vec<u8>) {
     match prng.below(4) {
         0 => buffer.clear(),
@@ -231,8 +247,9 @@ pub struct Kind {
     pub make: fn(&mut Prng) -> Case,
 }
 
-pub const KINDS: [Kind; 13] = [
+pub const KINDS: [Kind; 14] = [
     Kind { name: "straight arithmetic", share: 14, make: |p| of_program(p, programs::straight) },
+    Kind { name: "sums one by one", share: 8, make: sums_one_by_one },
     Kind { name: "loads and stores", share: 14, make: |p| of_program(p, programs::accesses) },
     Kind { name: "OPEN and CLOSE", share: 8, make: |p| of_program(p, programs::ranges) },
     Kind { name: "jumps", share: 8, make: |p| of_program(p, programs::jumps) },

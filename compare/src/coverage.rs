@@ -1,13 +1,16 @@
 //! What occurred in the cases, and what should have occurred and did not.
 
-use std::fmt::Write;
+mod sorts;
+
+use std::fmt::{Display, Write};
 
 use crate::calls::Answer;
 use crate::cases::Desk;
-use crate::images::{op, word_at, HEADER_BYTES, ROW_BYTES};
+use crate::images::{op, HEADER_BYTES, ROW_BYTES};
 use crate::plan::Plan;
 use crate::systematic::FAMILIES;
 use crate::types::State;
+use sorts::Sorts;
 
 /// Accepted calls are counted as number 0.
 const NUMBERS: usize = 12;
@@ -15,17 +18,6 @@ const REASONS: usize = 5;
 const REPORT_KINDS: usize = 6;
 /// The highest refusal of reading, beginning and running.
 const CALLS: [(&str, usize); 3] = [("reading", 7), ("beginning", 8), ("running", 11)];
-/// The sorts of EQ that request L4 tells apart, and whose cases they were met in.
-const EQUALITIES: [&str; 7] = [
-    "without undefined bits",
-    "of one register",
-    "unsettled with equal data",
-    "unsettled with other data",
-    "settled with bits of a undefined",
-    "settled with bits of B undefined",
-    "settled with bits of both undefined",
-];
-const MET_IN: [&str; 2] = ["counted", "drawn"];
 
 #[derive(Clone, Default)]
 struct OfKind {
@@ -41,30 +33,20 @@ pub struct Coverage {
     reports: [u64; REPORT_KINDS],
     /// Ops of steps that a run took alone, and STOP where a run ended at it.
     ops: [u64; op::COUNT],
-    /// Of those, EQ by its sort.
-    equalities: [[u64; EQUALITIES.len()]; MET_IN.len()],
-}
-
-/// The sort of an EQ in this state, by its place among `EQUALITIES`.
-fn equality(state: &State, row: &[u8]) -> usize {
-    let (a, b) = (usize::from(row[2]), usize::from(row[3]));
-    let (x, v) = (state.regs[a], state.vregs[a]);
-    let (y, w) = state.regs.get(b).map_or((word_at(row, 4), 0), |&y| (y, state.vregs[b]));
-    let settled = (x ^ y) & !(v | w) != 0;
-    match (v != 0, w != 0) {
-        (false, false) => 0,
-        _ if a == b => 1,
-        _ if !settled => 2 + usize::from(x != y),
-        (_, false) => 4,
-        (false, _) => 5,
-        _ => 6,
-    }
+    /// Of those, some ops by their sort.
+    sorts: Sorts,
 }
 
 fn add(to: &mut [u64], from: &[u64]) {
     for (to, from) in to.iter_mut().zip(from) {
         *to += from;
     }
+}
+
+/// Each name with its count.
+fn pairs<T: Display>(names: &[T], counts: &[u64]) -> String {
+    let pairs = names.iter().zip(counts).map(|(name, count)| format!("{name} {count}"));
+    pairs.collect::<Vec<_>>().join(", ")
 }
 
 impl Default for Coverage {
@@ -75,7 +57,7 @@ impl Default for Coverage {
             reasons: Default::default(),
             reports: Default::default(),
             ops: Default::default(),
-            equalities: Default::default(),
+            sorts: Default::default(),
         }
     }
 }
@@ -93,9 +75,7 @@ impl Coverage {
         add(&mut self.reasons, &other.reasons);
         add(&mut self.reports, &other.reports);
         add(&mut self.ops, &other.ops);
-        for (to, from) in self.equalities.iter_mut().zip(&other.equalities) {
-            add(to, from);
-        }
+        self.sorts.add(&other.sorts);
     }
 
     pub fn case(&mut self, kind: usize) {
@@ -133,10 +113,7 @@ impl Coverage {
         if after.state.steps == before.steps + 1 {
             let row = &after.image[HEADER_BYTES + ROW_BYTES * before.index as usize..];
             self.ops[usize::from(row[0])] += 1;
-            if row[0] == op::EQ {
-                let drawn = usize::from(kind >= FAMILIES.len());
-                self.equalities[drawn][equality(before, row)] += 1;
-            }
+            self.sorts.meet(kind >= FAMILIES.len(), row, before, &after.state);
         }
         if reason == 1 {
             self.ops[usize::from(op::STOP)] += 1;
@@ -173,9 +150,9 @@ impl Coverage {
         for (name, &count) in op::NAMES.iter().zip(&self.ops) {
             look(format!("op {name}"), count);
         }
-        for (met_in, counts) in MET_IN.iter().zip(&self.equalities) {
-            for (sort, &count) in EQUALITIES.iter().zip(counts) {
-                look(format!("EQ {sort}, in {met_in} cases"), count);
+        for (what, sorts, counts) in self.sorts.each() {
+            for (sort, &count) in sorts.iter().zip(counts) {
+                look(format!("{what}: {sort}"), count);
             }
         }
         missing
@@ -195,19 +172,17 @@ impl Coverage {
         }
         let numbers: String = (1..NUMBERS).map(|number| format!("{number:>7}")).collect();
         let heads = format!("{:<27}{:>8}{:>7}{numbers}{:>10}", "", "cases", "taken", "steps");
-        let pairs = |names: &[String], counts: &[u64]| {
-            let pairs = names.iter().zip(counts).map(|(name, count)| format!("{name} {count}"));
-            pairs.collect::<Vec<_>>().join(", ")
-        };
         let numbered = |count: usize| (1..count).map(|k| k.to_string()).collect::<Vec<_>>();
         let reasons = pairs(&numbered(REASONS), &self.reasons[1..]);
         let reports = pairs(&numbered(REPORT_KINDS), &self.reports[1..]);
-        let ops = pairs(&op::NAMES.map(str::to_string), &self.ops);
-        let sorts = EQUALITIES.map(str::to_string);
-        let [counted, drawn] = self.equalities.each_ref().map(|counts| pairs(&sorts, counts));
+        let ops = pairs(&op::NAMES, &self.ops);
+        let line = |(what, sorts, counts): (String, &[&str], &[u64])| {
+            format!("single steps of {what}: {}\n", pairs(sorts, counts))
+        };
+        let sorts: String = self.sorts.each().map(line).collect();
         format!(
             "{heads}\n{table}stop reasons: {reasons}\nreport kinds: {reports}\nsingle steps: {ops}\n\
-             single steps of EQ, counted: {counted}\nsingle steps of EQ, drawn: {drawn}\n"
+             {sorts}"
         )
     }
 }

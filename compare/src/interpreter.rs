@@ -1,5 +1,5 @@
-//! Document 01 taken at its word, with EQ's rule from request L4 of document 02: reading, beginning
-//! and running, plain and in its order.
+//! Document 01 taken at its word, with the rules of EQ, ADD and SUB from requests L4 and L13 of document
+//! 02: reading, beginning and running, plain and in its order.
 
 use crate::types::{Began, Buffers, Engine, Header, Lists, Ran, State};
 
@@ -302,8 +302,8 @@ impl Machine<'_> {
         let mut next = self.state.index + 1;
         match op {
             MOV => self.set(d, y, w),
-            ADD => self.set(d, x.wrapping_add(y), left(v | w)),
-            SUB => self.set(d, x.wrapping_sub(y), left(v | w)),
+            ADD => self.set(d, x.wrapping_add(y), addition(x, v, y, w)),
+            SUB => self.set(d, x.wrapping_sub(y), subtraction(x, v, y, w)),
             MUL => self.set(d, x.wrapping_mul(y), left(v | w)),
             AND => self.set(d, x & y, (v | w) & (x | v) & (y | w)),
             OR => self.set(d, x | y, (v | w) & (!x | v) & (!y | w)),
@@ -428,6 +428,32 @@ impl Machine<'_> {
 /// The lowest undefined bit and all above it.
 fn left(v: u32) -> u32 {
     v | v.wrapping_neg()
+}
+
+/// The data with undefined bits 0 (02, L13).
+fn low(x: u32, v: u32) -> u32 {
+    x & !v
+}
+
+/// The data with undefined bits 1 (02, L13).
+fn high(x: u32, v: u32) -> u32 {
+    x | v
+}
+
+/// The V of ADD (02, L13): v or w or (low x plus low y, xor high x plus high y).
+fn addition(x: u32, v: u32, y: u32, w: u32) -> u32 {
+    let lowest = low(x, v).wrapping_add(low(y, w));
+    let highest = high(x, v).wrapping_add(high(y, w));
+    let carried = lowest ^ highest;
+    v | w | carried
+}
+
+/// The V of SUB (02, L13): v or w or (low x minus high y, xor high x minus low y).
+fn subtraction(x: u32, v: u32, y: u32, w: u32) -> u32 {
+    let lowest = low(x, v).wrapping_sub(high(y, w));
+    let highest = high(x, v).wrapping_sub(low(y, w));
+    let borrowed = lowest ^ highest;
+    v | w | borrowed
 }
 
 /// The V of a shift: all ones if the amount is not defined.

@@ -131,6 +131,14 @@ pub fn straight(prng: &mut Prng) -> Image {
     with_regions(prng, m, rows)
 }
 
+/// The ops with sorts of their own in coverage, from top to bottom.
+pub fn sums(prng: &mut Prng) -> Image {
+    let m = memory_size(prng);
+    let n = prng.between(1, 16);
+    let rows = rows_of(prng, &[op::ADD, op::SUB, op::EQ], m, n);
+    with_regions(prng, m, rows)
+}
+
 /// Loads and stores whose addresses, half of them composed of two parts, lie at the edges.
 pub fn accesses(prng: &mut Prng) -> Image {
     let m = memory_size(prng);

@@ -44,8 +44,9 @@ impl Family {
     }
 }
 
-pub const FAMILIES: [Family; 17] = [
+pub const FAMILIES: [Family; 18] = [
     Family { name: "every rule, edge words", make: runs::arithmetic },
+    Family { name: "every carry in three bits", make: runs::carry },
     Family { name: "every access, edge address", make: runs::access },
     Family { name: "every jump", make: runs::jump },
     Family { name: "every output", make: runs::emit },

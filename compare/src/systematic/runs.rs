@@ -41,6 +41,16 @@ pub fn arithmetic(choices: &mut Choices, prng: &mut Prng) -> Case {
     one_step(prng, vec![Row::sum(op, d, a, operand)], &known)
 }
 
+/// ADD and SUB of three bits, in which both operands have any data and V; above them defined bits that
+/// stop a carry and pass a borrow on, such as do the opposite, or none.
+pub fn carry(choices: &mut Choices, prng: &mut Prng) -> Case {
+    let op = choices.pick(&[op::ADD, op::SUB]);
+    let (shift, above) = choices.pick(&[(0, 0), (7, 0xFFFF_FC00), (29, 0)]);
+    let [x, v, y, w] = [0; 4].map(|_| (choices.below(8) as u32) << shift);
+    let rows = vec![Row::sum(op, 3, 1, Operand::Register(2))];
+    one_step(prng, rows, &[(1, x, v), (2, y | above, w)])
+}
+
 pub fn access(choices: &mut Choices, prng: &mut Prng) -> Case {
     let m = choices.pick(&[M, MOST_MEMORY]);
     let op = choices.pick(&ACCESSES);

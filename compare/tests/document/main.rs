@@ -1,8 +1,9 @@
 //! The interpreter on every pinned test vector of document 01, its worked example, and edges worked out
-//! by hand from its text and that of document 02's request L4.
+//! by hand from its text and that of document 02's requests L4 and L13.
 
 mod accesses;
 mod bare;
+mod carry;
 mod equality;
 mod kit;
 mod pinned;

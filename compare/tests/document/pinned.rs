@@ -2,11 +2,12 @@
 
 use crate::kit::*;
 
+/// ADD's vector as request L13 of document 02 amends it, with x and y fixed as 0. Left is MUL's alone.
 #[test]
 fn pinned_add_and_left() {
-    assert_eq!(op_on(2, (5, 0x100), (6, 0)), (11, 0xFFFF_FF00));
-    assert_eq!(op_on(2, (5, 0), (6, 0)), (11, 0));
-    assert_eq!(op_on(2, (5, 0x8000_0000), (6, 0)), (11, 0x8000_0000));
+    assert_eq!(op_on(2, (0, 0x100), (0, 0)), (0, 0x100));
+    assert_eq!(op_on(4, (5, 0), (6, 0)), (30, 0));
+    assert_eq!(op_on(4, (5, 0x8000_0000), (6, 0)), (30, 0x8000_0000));
 }
 
 #[test]
