@@ -26,8 +26,9 @@ const MOST_REFUSED: u32 = 20;
 const MOST_REPORTED: u32 = 3;
 /// A program is counted under the highest of these step counts that it reached without a report.
 const STEP_MARKS: [u32; 5] = [0, 1, 12, 48, 200];
-/// The planted fault that is EQ before request L4, by which a settled comparison is undefined.
-const BEFORE_L4: &str = "eq_of_document_01";
+/// The ops whose rules L4 and L13 made finer, and the planted faults that have document 01's instead.
+const FINER: [(&str, &str); 3] =
+    [("EQ", "eq_of_document_01"), ("ADD", "add_of_document_01"), ("SUB", "sub_of_document_01")];
 
 const ANY_PROGRAM: [Maker; 6] = [
     programs::straight,
@@ -49,8 +50,8 @@ pub struct Tally {
     stopped_by_report: [u64; STEP_MARKS.len()],
     refused: u64,
     outputs: u64,
-    /// Programs that ran clean and would not have before request L4.
-    settled: u64,
+    /// Programs that ran clean and would not have with document 01's rule of the op.
+    clean_by: [u64; FINER.len()],
 }
 
 impl Tally {
@@ -60,7 +61,9 @@ impl Tally {
         self.differing += other.differing;
         self.refused += other.refused;
         self.outputs += other.outputs;
-        self.settled += other.settled;
+        for (to, from) in self.clean_by.iter_mut().zip(other.clean_by) {
+            *to += from;
+        }
         for mark in 0..STEP_MARKS.len() {
             self.clean[mark] += other.clean[mark];
             self.stopped_by_report[mark] += other.stopped_by_report[mark];
@@ -75,16 +78,19 @@ impl Tally {
         } else {
             self.clean[reached] += 1;
             self.outputs += u64::from(pair.desk.state.outputs);
-            self.settled += u64::from(pair.reported_before_l4());
+            for (count, (_, fault)) in self.clean_by.iter_mut().zip(FINER) {
+                *count += u64::from(pair.reported_by(fault));
+            }
         }
     }
 
-    /// Is too little behind the claim: programs clean for dozens of steps, and by settled comparisons,
+    /// Is too little behind the claim: programs clean for dozens of steps, and by each finer rule,
     /// undefined bits that differ, refused runs, outputs?
     pub fn is_empty(&self) -> bool {
         let dozens: u64 = self.clean[3..].iter().sum();
-        let few_programs = 8 * dozens < self.programs || 8 * self.settled < self.programs;
-        let few = few_programs || 2 * self.differing < self.looks;
+        let few_programs = |&programs: &u64| 8 * programs < self.programs;
+        let few = few_programs(&dozens) || self.clean_by.iter().any(few_programs);
+        let few = few || 2 * self.differing < self.looks;
         few || self.programs == 0 || self.refused == 0 || self.outputs == 0
     }
 
@@ -95,19 +101,22 @@ impl Tally {
                 pairs.map(|(mark, count)| format!("{mark}+ steps: {count}")).collect();
             pairs.join(", ")
         };
+        let clean_by = FINER.iter().zip(&self.clean_by);
+        let clean_by: Vec<String> =
+            clean_by.map(|((op, _), count)| format!("of {op}: {count}")).collect();
         format!(
             "programs that ran clean, by steps: {}\n\
              programs stopped by a report, by clean steps before it: {}\n\
              looks at both machines: {}, of them {} with undefined bits that differ\n\
              refused runs among them: {}; outputs of clean programs: {}\n\
-             clean programs that would have been reported before L4: {}\n",
+             clean programs that document 01's rule would report, {}\n",
             by_steps(&self.clean),
             by_steps(&self.stopped_by_report),
             self.looks,
             self.differing,
             self.refused,
             self.outputs,
-            self.settled
+            clean_by.join(", ")
         )
     }
 }
@@ -192,12 +201,12 @@ impl Pair<'_> {
         Ok(Pair { checker, start, desk, bare, trapped: false, clean_steps: 0 })
     }
 
-    /// Is the program, as far as it ran clean, reported by EQ's rule before request L4?
-    fn reported_before_l4(&self) -> bool {
+    /// Is the program, as far as it ran clean, reported by the interpreter with this fault?
+    fn reported_by(&self, fault: &str) -> bool {
         let (mut desk, registers) = self.start.clone();
-        let before = faults::planted(BEFORE_L4).expect("it is one of the planted faults");
+        let faulty = faults::planted(fault).expect("it is one of the planted faults");
         for call in [Call::Begin(registers), Call::Run(Budget::Exactly(self.clean_steps))] {
-            calls::make(before, &mut desk, call);
+            calls::make(faulty, &mut desk, call);
         }
         desk.state.reports > 0
     }

@@ -1,6 +1,8 @@
 //! Programs that run without a report although undefined data moves all through them.
 
+mod carries;
 mod comparisons;
+mod packed;
 
 use crate::edges;
 use crate::images::{op, Image, Operand, Region, Row, FILLED, MOST_ROWS, UNDEFINED};
@@ -199,23 +201,11 @@ impl Draft<'_> {
         self.add(op::AND, d, SCRATCH[0], Literal(low));
     }
 
-    /// A byte stored among undefined ones and loaded with them; its lowest bit in the word.
-    fn byte_among_undefined(&mut self, byte: u8) -> u32 {
-        let a = self.loose();
-        let to = self.zones.loose + self.prng.below(ZONE - 3);
-        let k = self.prng.below(4);
-        self.rows.push(Row::copy(POINTER, Literal(0)));
-        self.rows.push(Row::access(op::ST32, a, POINTER, to));
-        self.rows.push(Row::access(op::ST8, byte, POINTER, to + k));
-        self.rows.push(Row::access(op::LD32, SCRATCH[0], POINTER, to));
-        8 * k
-    }
-
     /// A firm byte masked out of undefined ones.
     fn firm_byte_among_undefined(&mut self) {
         let (d, byte) = (self.firm_target(), self.firm());
-        let shift = self.byte_among_undefined(byte);
-        self.add(op::AND, d, SCRATCH[0], Literal(0xFF << shift));
+        let field = self.byte_among_undefined(byte);
+        self.add(op::AND, d, SCRATCH[0], Literal(field.mask()));
     }
 
     /// What must be reported: an undefined condition, output or address, or an unaddressable byte.
@@ -274,7 +264,7 @@ impl Draft<'_> {
     }
 
     fn block(&mut self, counters: &[u8]) {
-        match self.prng.below(23) {
+        match self.prng.below(25) {
             0..=2 => self.loose_sum(),
             3 => self.firm_sum(),
             4 | 5 => self.loose_memory(),
@@ -290,6 +280,7 @@ impl Draft<'_> {
             16 => self.skipped(counters),
             17 | 18 => self.compared(),
             19 => self.polled(counters),
+            20 | 21 => self.packed_sums(counters),
             _ => {
                 self.partly_defined();
                 self.loose_sum();

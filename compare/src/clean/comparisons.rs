@@ -1,6 +1,7 @@
 //! Comparisons of words with bits that nobody set: such as these bits decide, and loops over a status
 //! word, whose set bits settle the answer (document 02, L4).
 
+use super::packed::Field;
 use super::{Draft, POINTER, SCRATCH, ZONE};
 use crate::edges;
 use crate::images::{op, Operand, Row};
@@ -10,26 +11,7 @@ use Operand::{Literal, Register};
 /// Status words have the number of the round in a field; codes have one that no round has there.
 const OTHER_NUMBERS: [u32; 4] = [0, 10, 12, 15];
 
-/// The set part of a status word: where it begins, and its bits before they are moved there.
-struct Field {
-    shift: u32,
-    bits: u32,
-}
-
-impl Field {
-    fn mask(&self) -> u32 {
-        self.bits << self.shift
-    }
-}
-
 impl Draft<'_> {
-    /// A loose register's bits where `kept` has them, 1 where `set` has them, 0 elsewhere.
-    fn partly_set(&mut self, d: u8, kept: u32, set: u32) {
-        let a = self.loose();
-        self.add(op::AND, d, a, Literal(kept));
-        self.add(op::OR, d, d, Literal(set));
-    }
-
     /// A comparison of words with one undefined bit, which decides it unless the bit below does.
     pub fn compared(&mut self) {
         let [first, second] = SCRATCH;
@@ -73,7 +55,7 @@ impl Draft<'_> {
         let [status, moved] = SCRATCH;
         let way = self.prng.below(3);
         if way == 0 {
-            return Field { shift: self.byte_among_undefined(number), bits: 0xFF };
+            return self.byte_among_undefined(number);
         }
         let field = Field { shift: self.prng.below(if way == 1 { 29 } else { 5 }), bits: 0xF };
         let set = edges::shadow(self.prng) & !field.mask();
