@@ -1,11 +1,11 @@
 #!/bin/sh
 # Measures Memcheck's V bits with vbits.c and compares them with the checker's.
-# Usage: run.sh PROGRAM [L13]   PROGRAM is the built memcheck; L13 says that the checker has that request.
+# Usage: run.sh PROGRAM   PROGRAM is the built memcheck.
 set -eu
 here=$(cd "$(dirname "$0")" && pwd)
 
-if [ $# -lt 1 ]; then
-    echo "usage: run.sh PROGRAM [L13]" >&2
+if [ $# -ne 1 ]; then
+    echo "usage: run.sh PROGRAM" >&2
     exit 1
 fi
 if ! command -v valgrind >/dev/null || ! echo '#include <valgrind/memcheck.h>' | gcc -E - >/dev/null 2>&1; then
@@ -31,7 +31,4 @@ measure plain all --expensive-definedness-checks=no --vex-iropt-level=0
 measure strict events --expensive-definedness-checks=no --partial-loads-ok=no
 
 valgrind --version
-program=$1
-shift
-"$program" no="$work/no" auto="$work/auto" yes="$work/yes" \
-    plain="$work/plain" strict="$work/strict" "$@"
+"$1" no="$work/no" auto="$work/auto" yes="$work/yes" plain="$work/plain" strict="$work/strict"

@@ -278,6 +278,8 @@ struct Scene {
 #define VALUE "movl 16(%0),%%ecx\n\t"
 #define RESULT "movl %%ecx,20(%0)\n\t"
 #define ZERO "cmpl $0,%%ecx\n\tsete %%cl\n\tmovzbl %%cl,%%ecx\n\t"
+#define ADDED "addl $16,%%ecx\n\tshrl $16,%%ecx\n\t"
+#define LESS "subl $16,%%ecx\n\tshrl $16,%%ecx\n\t"
 #define JUMP "testl %%ecx,%%ecx\n\tjnz 1f\n\tnop\n1:\n\t"
 #define NEXT_BLOCK "leaq 1f(%%rip),%%rdx\n\tjmp *%%rdx\n1:\n\t"
 SCENE_FUNCTION(copy, VALUE "movl %%ecx,%%eax\n\tmovl %%eax,%%ecx\n\t" RESULT)
@@ -293,6 +295,8 @@ SCENE_FUNCTION(load_twice_later, POINTER LOAD NEXT_BLOCK LOAD KEEP)
 SCENE_FUNCTION(jump, VALUE JUMP RESULT)
 SCENE_FUNCTION(jump_twice, VALUE JUMP JUMP RESULT)
 SCENE_FUNCTION(compare_jump, VALUE ZERO JUMP RESULT)
+SCENE_FUNCTION(add_jump, VALUE ADDED JUMP RESULT)
+SCENE_FUNCTION(sub_jump, VALUE LESS JUMP RESULT)
 SCENE_FUNCTION(load_jump, POINTER LOAD JUMP RESULT)
 
 static void output(struct Scene *s) {
@@ -332,6 +336,8 @@ static const struct Event {
     {"jump-twice", jump_twice, LOADED, 0, 0xFFFFFFFF, 0, 0, 0},
     {"jump-decided", jump, LOADED, 0, 0x10, 0, 0, 0},
     {"compare-jump-decided", compare_jump, LOADED, 0, 0x10, 0, 0, 0},
+    {"add-jump-stopped", add_jump, LOADED, 0, 0x10, 0, 0, 0},
+    {"sub-jump-stopped", sub_jump, LOADED, 0, 0x10, 0, 0, 0},
     {"output", output, GIVEN, 0, 0x10, 0, 0, 0},
     {"output-twice", output_twice, GIVEN, 0, 0x10, 0, 0, 0},
     {"unaddressable-load-byte", load_byte, LOADED, 0, 0, 0, 0, 1},

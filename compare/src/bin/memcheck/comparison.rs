@@ -7,9 +7,9 @@ use compare::images::op;
 
 use crate::cases::Case;
 use crate::differences::Relation::{self, Equal};
-use crate::differences::{Difference, ROWS};
+use crate::differences::ROWS;
 use crate::events::{event_place, EVENTS};
-use crate::modes::{Mode, Request, ALL, EVERY};
+use crate::modes::{Mode, ALL, EVERY};
 use crate::seen::Seen;
 
 /// The operations that `vbits` runs, and the fewest cases of each that make a measurement.
@@ -51,7 +51,6 @@ impl Use {
 /// Everything counted so far, and what wasn't foreseen.
 #[derive(Default)]
 pub struct Comparison {
-    pub landed: Vec<Request>,
     pub tallies: BTreeMap<(u8, Mode), Tally>,
     pub uses: BTreeMap<(usize, u8, Mode), Use>,
     pub events: BTreeMap<(usize, String), Vec<Mode>>,
@@ -98,8 +97,7 @@ impl Comparison {
             return Err(format!("{case}: data {:#x}, ours {data:#x}", case.data));
         }
         let example = format!("{case}: Memcheck {:#x}, ours {v:#x}", case.shadow);
-        let fits = |row: &Difference| row.holds(&self.landed) && row.fits(&case, mode);
-        let Some(place) = ROWS.iter().position(fits) else {
+        let Some(place) = ROWS.iter().position(|row| row.fits(&case, mode)) else {
             return if found == Equal { Ok(()) } else { Err(format!("no row: {example}")) };
         };
         self.uses.entry((place, case.op, mode)).or_default().add(found, &example);
@@ -148,12 +146,11 @@ impl Comparison {
         }
     }
 
-    /// Rows that hold but decided no difference in one of their modes or operations.
+    /// Rows that decided no difference in one of their modes or operations.
     pub fn find_idle_rows(&mut self) {
         for (place, row) in ROWS.iter().enumerate() {
-            let holds = row.holds(&self.landed);
             let both = row.ops.iter().flat_map(|op| row.modes.iter().map(move |mode| (*op, *mode)));
-            for (op, mode) in both.filter(|_| holds) {
+            for (op, mode) in both {
                 let used = self.uses.get(&(place, op, mode));
                 if used.is_none_or(|used| used.differ == 0) {
                     let name = op::NAMES[op as usize];

@@ -7,14 +7,12 @@ use compare::images::op;
 
 use crate::cases::{Case, Form};
 use crate::modes::Mode::{self, Auto, No, Plain, Yes};
-use crate::modes::Request::{self, L13};
 use crate::modes::{ALL, OPTIMISED};
 use crate::rules::{
     document_01, high_bits_equality, high_bits_undefined, is_carry_literal, is_literal_zero,
-    is_power_literal, l13, shifted,
+    is_power_literal, shifted,
 };
 use Relation::{Equal, MemcheckFiner, Neither, OursFiner};
-use Stage::{Always, With, Without};
 
 #[derive(Clone, Copy, PartialEq, Eq, PartialOrd, Ord)]
 pub enum Relation {
@@ -48,19 +46,10 @@ impl Relation {
     }
 }
 
-/// Whether a row holds with every checker, or only without or with a request.
-#[derive(Clone, Copy)]
-enum Stage {
-    Always,
-    Without(Request),
-    With(Request),
-}
-
 /// Cases in which the V may differ: Memcheck's is what `rule` says, and only `finer` may be finer.
 pub struct Difference {
     pub ops: &'static [u8],
     pub modes: &'static [Mode],
-    stage: Stage,
     when: fn(&Case) -> bool,
     pub finer: Relation,
     rule: fn(&Case) -> u32,
@@ -70,60 +59,37 @@ pub struct Difference {
 /// The first row that fits a case decides; where none fits, both are equal.
 #[rustfmt::skip]
 pub const ROWS: &[Difference] = &[
-    Difference { ops: &[op::ADD], modes: OPTIMISED, stage: Always, when: |c| c.form == Form::Same,
+    Difference { ops: &[op::ADD], modes: OPTIMISED, when: |c| c.form == Form::Same,
         finer: MemcheckFiner, rule: |c| c.v << 1,
         why: "a register added to itself becomes a shift left by 1" },
-    Difference { ops: &[op::SUB], modes: ALL, stage: Always, when: |c| c.form == Form::Same,
+    Difference { ops: &[op::SUB], modes: ALL, when: |c| c.form == Form::Same,
         finer: MemcheckFiner, rule: |_| 0,
         why: "a register less itself is 0, as for XOR" },
-    Difference { ops: &[op::SHL, op::SHR, op::SAR], modes: ALL, stage: Always,
+    Difference { ops: &[op::SHL, op::SHR, op::SAR], modes: ALL,
         when: |c| c.w != 0 && c.w & 31 == 0, finer: MemcheckFiner, rule: shifted,
         why: "the amount is cut to its five low bits before its V bits are looked at" },
-    Difference { ops: &[op::LTU], modes: &[No], stage: Always, when: is_power_literal,
+    Difference { ops: &[op::LTU], modes: &[No], when: is_power_literal,
         finer: MemcheckFiner, rule: high_bits_undefined,
         why: "below the literal 2^n, n at least 1, becomes: shifted right by n, equal to 0" },
-    Difference { ops: &[op::LTU], modes: &[Auto, Yes], stage: Always, when: is_power_literal,
+    Difference { ops: &[op::LTU], modes: &[Auto, Yes], when: is_power_literal,
         finer: MemcheckFiner, rule: high_bits_equality,
         why: "below the literal 2^n becomes an equality as in mode no, and that is L4's" },
-    Difference { ops: &[op::EQ], modes: &[No, Plain], stage: Always, when: |_| true,
+    Difference { ops: &[op::EQ], modes: &[No, Plain], when: |_| true,
         finer: OursFiner, rule: document_01,
         why: "document 01's rule in every case; the checker has L4's" },
-    Difference { ops: &[op::ADD], modes: &[Auto, Yes], stage: Without(L13), when: |_| true,
-        finer: MemcheckFiner, rule: l13,
-        why: "L13's rule in every case: carries are followed; closed by L13" },
-    Difference { ops: &[op::SUB], modes: &[Yes], stage: Without(L13), when: |_| true,
-        finer: MemcheckFiner, rule: l13,
-        why: "L13's rule in every case: borrows are followed; closed by L13" },
-    Difference { ops: &[op::SUB], modes: &[Auto], stage: Without(L13), when: is_carry_literal,
-        finer: MemcheckFiner, rule: l13,
-        why: "L13's rule next to a literal of the kind that strlen uses; closed by L13" },
-    Difference { ops: &[op::ADD], modes: &[No], stage: Without(L13), when: is_literal_zero,
-        finer: MemcheckFiner, rule: |c| c.v,
-        why: "adding the literal 0 becomes a copy; closed by L13" },
-    Difference { ops: &[op::SUB], modes: &[No, Auto], stage: Without(L13), when: is_literal_zero,
-        finer: MemcheckFiner, rule: |c| c.v,
-        why: "subtracting the literal 0 becomes a copy; closed by L13" },
-    Difference { ops: &[op::ADD, op::SUB], modes: &[No], stage: With(L13),
-        when: |c| !is_literal_zero(c), finer: OursFiner, rule: document_01,
-        why: "document 01's rule in every case; the checker has L13's" },
-    Difference { ops: &[op::ADD, op::SUB], modes: &[Plain], stage: With(L13), when: |_| true,
+    Difference { ops: &[op::ADD, op::SUB], modes: &[Plain], when: |_| true,
         finer: OursFiner, rule: document_01,
         why: "document 01's rule in every case; the checker has L13's" },
-    Difference { ops: &[op::SUB], modes: &[Auto], stage: With(L13),
+    Difference { ops: &[op::ADD, op::SUB], modes: &[No], when: |c| !is_literal_zero(c),
+        finer: OursFiner, rule: document_01,
+        why: "document 01's rule but for the literal 0, a copy; the checker has L13's" },
+    Difference { ops: &[op::SUB], modes: &[Auto],
         when: |c| !is_literal_zero(c) && !is_carry_literal(c),
         finer: OursFiner, rule: document_01,
-        why: "document 01's rule but for literals as strlen uses; the checker has L13's" },
+        why: "document 01's rule but for 0 and literals as strlen uses; the checker has L13's" },
 ];
 
 impl Difference {
-    pub fn holds(&self, landed: &[Request]) -> bool {
-        match self.stage {
-            Always => true,
-            Without(request) => !landed.contains(&request),
-            With(request) => landed.contains(&request),
-        }
-    }
-
     pub fn fits(&self, case: &Case, mode: Mode) -> bool {
         self.ops.contains(&case.op) && self.modes.contains(&mode) && (self.when)(case)
     }

@@ -53,9 +53,14 @@ const STORE: Row = Row::access(op::ST32, SECOND, FIRST, 0);
 const STORE_BYTE: Row = Row::access(op::ST8, SECOND, FIRST, 0);
 const EMIT: Row = Row::emit(SECOND, 0);
 const ZERO: Row = Row::sum(op::EQ, RESULT, SECOND, Operand::Literal(0));
+const ADDED: Row = Row::sum(op::ADD, RESULT, SECOND, Operand::Literal(16));
+const LESS: Row = Row::sum(op::SUB, RESULT, SECOND, Operand::Literal(16));
+const UPPER: Row = Row::sum(op::SHR, RESULT, RESULT, Operand::Literal(16));
 const JUMP: &[Row] = &[Row::jump(SECOND, 1), Row::stop()];
 const JUMP_TWICE: &[Row] = &[Row::jump(SECOND, 1), Row::jump(SECOND, 2), Row::stop()];
 const COMPARE_JUMP: &[Row] = &[ZERO, Row::jump(RESULT, 2), Row::stop()];
+const ADD_JUMP: &[Row] = &[ADDED, UPPER, Row::jump(RESULT, 3), Row::stop()];
+const SUB_JUMP: &[Row] = &[LESS, UPPER, Row::jump(RESULT, 3), Row::stop()];
 const LOAD_JUMP: &[Row] = &[LOAD, Row::jump(RESULT, 2), Row::stop()];
 const CLOSE_WORD: Row = Row::range(op::CLOSE, 0, 4);
 const OPEN_WORD: Row = Row::range(op::OPEN, 0, 4);
@@ -84,6 +89,7 @@ const SUM: &str = "Memcheck clears the sum that is the address, not the register
 const NOT_CLEARED: &str = "Memcheck clears the condition, not the register that it came from";
 const DECIDED: &str = "a defined 1 bit decides the jump; Memcheck then has nothing to report";
 const COARSE: &str = "document 01's rule of EQ, by which a defined 1 bit doesn't settle it";
+const LEFT: &str = "document 01's rule of ADD and SUB, by which no defined bit stops a carry";
 const OUTPUT: &str = "Memcheck reports the bytes that a system call reads and leaves their V";
 const REAL_DATA: &str = "Memcheck lets the real access happen: data of unaddressable bytes";
 const PARTIAL: &str =
@@ -105,6 +111,10 @@ pub const EVENTS: &[Event] = &[
     other("jump-decided", JUMP, IN_VALUE, &[Auto, Yes], [0, 0x10, VALUE], DECIDED),
     same("compare-jump-decided", COMPARE_JUMP, IN_RESULT),
     other("compare-jump-decided", COMPARE_JUMP, IN_RESULT, &[No, Plain, Strict], [1, 1, 0], COARSE),
+    same("add-jump-stopped", ADD_JUMP, IN_RESULT),
+    other("add-jump-stopped", ADD_JUMP, IN_RESULT, &[No, Plain, Strict], [1, 0xFFFF, VALUE >> 16], LEFT),
+    same("sub-jump-stopped", SUB_JUMP, IN_RESULT),
+    other("sub-jump-stopped", SUB_JUMP, IN_RESULT, &[No, Auto, Plain, Strict], [1, 0xFFFF, VALUE >> 16], LEFT),
     other("output", &[EMIT], IN_VALUE, EVERY, [1, 0x10, VALUE], OUTPUT),
     other("output-twice", &[EMIT, EMIT], IN_VALUE, EVERY, [2, 0x10, VALUE], OUTPUT),
     other("unaddressable-load-byte", &[LOAD_BYTE], IN_RESULT, EVERY, [1, 0, 0x11], REAL_DATA),

@@ -16,17 +16,15 @@ use std::process::ExitCode;
 
 use crate::comparison::Comparison;
 use crate::machine::ENGINE;
-use crate::modes::{named, MODES, REQUESTS};
+use crate::modes::Mode;
 
-/// Takes the arguments: `no=FILE auto=FILE yes=FILE plain=FILE strict=FILE`, the lines of each
-/// mode, and those requests of document 02 that the rows know of and the checker has (`L13`).
+/// Takes the arguments: `no=FILE auto=FILE yes=FILE plain=FILE strict=FILE`, the lines of each mode.
 fn compare_all(arguments: &[String]) -> Result<Comparison, String> {
     let mut all = Comparison::default();
-    all.landed.extend(arguments.iter().filter_map(|word| named(&REQUESTS, word)));
-    for argument in arguments.iter().filter(|word| named(&REQUESTS, word).is_none()) {
+    for argument in arguments {
         let (name, path) =
             argument.split_once('=').ok_or(format!("unknown argument {argument}"))?;
-        let mode = named(&MODES, name).ok_or(format!("unknown mode {name}"))?;
+        let mode = Mode::named(name).ok_or(format!("unknown mode {name}"))?;
         let text = fs::read_to_string(path).map_err(|error| format!("{path}: {error}"))?;
         all.take_file(&text, mode);
     }

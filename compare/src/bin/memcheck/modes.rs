@@ -1,4 +1,4 @@
-//! What an expectation depends on: Memcheck's mode, and the requests that the checker has.
+//! Memcheck's modes, on which an expectation depends.
 
 use std::fmt;
 
@@ -14,6 +14,12 @@ pub enum Mode {
 }
 use Mode::{Auto, No, Plain, Strict, Yes};
 
+impl Mode {
+    pub fn named(name: &str) -> Option<Mode> {
+        MODES.iter().find(|(known, _)| *known == name).map(|(_, mode)| *mode)
+    }
+}
+
 impl fmt::Display for Mode {
     fn fmt(&self, f: &mut fmt::Formatter) -> fmt::Result {
         let known = MODES.iter().find(|(_, mode)| mode == self);
@@ -21,22 +27,9 @@ impl fmt::Display for Mode {
     }
 }
 
-pub const MODES: [(&str, Mode); 5] =
+const MODES: [(&str, Mode); 5] =
     [("no", No), ("auto", Auto), ("yes", Yes), ("plain", Plain), ("strict", Strict)];
 pub const EVERY: &[Mode] = &[No, Auto, Yes, Plain, Strict];
 /// The modes in which the operations are run beside the events, and those with the optimiser.
 pub const ALL: &[Mode] = &[No, Auto, Yes, Plain];
 pub const OPTIMISED: &[Mode] = &[No, Auto, Yes];
-
-#[derive(Clone, Copy, PartialEq, Eq)]
-pub enum Request {
-    L13,
-}
-use Request::L13;
-
-pub const REQUESTS: [(&str, Request); 1] = [("L13", L13)];
-
-/// What has this name in a table of names.
-pub fn named<T: Copy>(table: &[(&str, T)], name: &str) -> Option<T> {
-    table.iter().find(|(known, _)| *known == name).map(|(_, value)| *value)
-}

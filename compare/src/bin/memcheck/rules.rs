@@ -15,16 +15,6 @@ pub fn document_01(c: &Case) -> u32 {
     }
 }
 
-/// Request L13's rule: the lowest and highest operands, and which sum or difference bits move.
-pub fn l13(c: &Case) -> u32 {
-    let (low_x, high_x, low_y, high_y) = (c.x & !c.v, c.x | c.v, c.y & !c.w, c.y | c.w);
-    c.v | c.w
-        | match c.op {
-            op::ADD => low_x.wrapping_add(low_y) ^ high_x.wrapping_add(high_y),
-            _ => low_x.wrapping_sub(high_y) ^ high_x.wrapping_sub(low_y),
-        }
-}
-
 pub fn shifted(c: &Case) -> u32 {
     match c.op {
         op::SHL => c.v << (c.y % 32),
