@@ -92,12 +92,15 @@ carries-sound f carries range same x v x′ y w y′ _ a b = carries-alike f car
 left-none : Left 0 ≡ 0
 left-none = refl
 
--- where no bit of either is undefined, a rule within Left calls none so
-pub within-none : (rule : Rule) → Within rule leftV → (same : Bool) {x v y w : ℕ} → x < 2 ^ 32 → v < 2 ^ 32 → y < 2 ^ 32 → w < 2 ^ 32 → rule same x v y w < 2 ^ 32
-    → {t : Bool} → t ≡ eqb (UifU v w) 0 → t ≡ true → 0 ≡ rule same x v y w
+-- where t, the test for it, finds no bit of either operand undefined, the rule gives V 0
+abbrev pub NoneMore : Rule → Type 0
+NoneMore rule =
+    (same : Bool) (x v y w : ℕ) → x < 2 ^ 32 → v < 2 ^ 32 → y < 2 ^ 32 → w < 2 ^ 32 → (t : Bool) → t ≡ eqb (UifU v w) 0 → t ≡ true → 0 ≡ rule same x v y w
+
+pub within-none : (rule : Rule) → Within rule leftV → ((same : Bool) (x v y w : ℕ) → v < 2 ^ 32 → w < 2 ^ 32 → rule same x v y w < 2 ^ 32) → NoneMore rule
 unfolding Within
-within-none rule within same {x} {v} {y} {w} hx hv hy hw hr d e =
-    bits-equal 32 0 (rule same x v y w) (omega arith) hr
+within-none rule within range same x v y w hx hv hy hw t d e =
+    bits-equal 32 0 (rule same x v y w) (omega arith) (range same x v y w hv hw)
     (λ i l.
     ⊎-elim
     (λ (z : bit i (rule same x v y w) ≡ 0). bit-zero i ∙ sym z)
@@ -107,6 +110,6 @@ within-none rule within same {x} {v} {y} {w} hx hv hy hw hr d e =
     clear : (i : ℕ) → bit i (Left (UifU v w)) ≡ 0
     clear i = ap (λ (u : ℕ). bit i (Left u)) (eqb-true (UifU v w) 0 (sym d ∙ e)) ∙ ap (bit i) left-none ∙ bit-zero i
 
-pub mul-none : (same : Bool) {x v y w : ℕ} → x < 2 ^ 32 → v < 2 ^ 32 → y < 2 ^ 32 → w < 2 ^ 32 → {t : Bool} → t ≡ eqb (UifU v w) 0 → t ≡ true → 0 ≡ mulV same x v y w
+pub mul-none : NoneMore mulV
 unfolding Within
-mul-none same {x} {v} {y} {w} hx hv hy hw = within-none mulV (λ _ _ _ _ _ _ _ _ _ _ o. o) same hx hv hy hw (left-lt (or-lt 32 v w hv hw))
+mul-none = within-none mulV (λ _ _ _ _ _ _ _ _ _ _ o. o) (λ same x v y w hv hw. left-lt (or-lt 32 v w hv hw))

@@ -1,13 +1,12 @@
--- ADD and SUB: where the sums of the least and of the greatest operands have the same bit, every sum between them has it.
+-- ADD and SUB: where neither operand's bit is undefined, and the sums of the least and of the greatest operands have the same bit, every sum between has it.
 use mathlib.Core.Path.{_≡_, sym, ap, ap₂, _∙_, subst, subst₂}
 use mathlib.Core.Logic.{⊎-elim}
-use mathlib.Core.Bool.{Bool, true}
+use mathlib.Core.Bool.{Bool}
 use Prim.Native.Nat.{ℕ, zero, suc, _+_, _-_, _*_, _/_, _%_, _^_, _≤_, _<_, min, max}
 use native.Mathlib.Nat.{add-zero, mod-lt, div-lt-iff-lt-mul, mul-add-div-right, mul-le-mul-right}
 use native.Mathlib.Omega.{arith}
 use lib.Pow.{pow-pos, split, shr-mono}
 use lib.Bits.{bitOr, bitXor, differ, and-lt, or-lt, xor-lt}
-use lib.Dec.{eqb}
 use Rattle.rules.specs.Word.{bit, wrapped, inverted, negated}
 use Rattle.rules.specs.Actions.{addOf, subOf}
 use Rattle.rules.specs.Shadows.{UifU, Left, leftV, low, high, addV, subV}
@@ -15,7 +14,7 @@ use Rattle.rules.specs.Agreement.{Agree, Alike, Sound, Within}
 use Rattle.rules.proofs.Bits.{bit-lt, zero-or-one, bit-and, bit-or, bit-xor, differ-self, differ-none, bit-mod, low-suc, bits-equal, bit-not}
 use Rattle.rules.proofs.Agreement.{alike-below, alike-self, alike-swapped, alike-inverted}
 use Rattle.rules.proofs.Congruence.{wrapped-lt}
-use Rattle.rules.proofs.Carry.{Carries, add-carries, sub-carries, carries-alike, within-none}
+use Rattle.rules.proofs.Carry.{Carries, add-carries, sub-carries, carries-alike, NoneMore, within-none}
 
 -- ---- the carry into bit i, where c comes in at the bottom
 carry : ℕ → ℕ → ℕ → ℕ → ℕ
@@ -146,12 +145,13 @@ low-inverted {y} {w} hy hw =
     bit-not 32 i (high y w) l (or-lt 32 y w hy hw)
     ∙ omega (arith, bit-or i y w, bit-low i (inverted y) w l hw, bit-not 32 i y l hy, bit-lt i y, bit-lt i w))
 
+inverted-twice : {x : ℕ} → x < 2 ^ 32 → inverted (inverted x) ≡ x
+inverted-twice hx = omega arith
+
 high-inverted : {y w : ℕ} → y < 2 ^ 32 → w < 2 ^ 32 → inverted (low y w) ≡ high (inverted y) w
 high-inverted {y} {w} hy hw =
-    bits-equal 32 (inverted (low y w)) (high (inverted y) w) (omega arith) (or-lt 32 (inverted y) w (omega arith) hw)
-    (λ i l.
-    bit-not 32 i (low y w) l (and-lt 32 y (inverted w) hy (omega arith))
-    ∙ omega (arith, bit-low i y w l hw, bit-or i (inverted y) w, bit-not 32 i y l hy, bit-lt i y, bit-lt i w))
+    ap inverted (sym (low-inverted {y = inverted y} {w = w} (omega arith) hw ∙ ap (λ (n : ℕ). low n w) (inverted-twice hy)))
+    ∙ inverted-twice (or-lt 32 (inverted y) w (omega arith) hw)
 
 sub-rule : (same : Bool) (x v y w : ℕ) → y < 2 ^ 32 → w < 2 ^ 32 → subV same x v y w ≡ sumV 1 x v (inverted y) w
 sub-rule same x v y w hy hw =
@@ -167,7 +167,7 @@ sub-sound same x v x′ y w y′ _ a b =
     (sum-sound 1 (omega arith) a (alike-inverted b)))
 
 -- ---- beside Left
--- the results of two choices of the undefined bits differ only where Left calls a bit undefined
+-- an operand's undefined bit, and a bit in which two choices of the undefined bits give different results, are undefined under Left
 within-left : (f : ℕ → ℕ → ℕ) → Carries f → ((x y : ℕ) → f x y < 2 ^ 32) → {v a a′ w b b′ : ℕ} (i : ℕ) → Alike 32 v a a′ → Alike 32 w b b′
     → bit i (bitOr (UifU v w) (bitXor (f a b) (f a′ b′))) ≡ 1 → bit i (Left (UifU v w)) ≡ 1
 unfolding Agree
@@ -197,10 +197,11 @@ add-sub-within = (
 )
 
 -- so the short cut is right (02, L3)
-pub add-none : (same : Bool) {x v y w : ℕ} → x < 2 ^ 32 → v < 2 ^ 32 → y < 2 ^ 32 → w < 2 ^ 32 → {t : Bool} → t ≡ eqb (UifU v w) 0 → t ≡ true → 0 ≡ addV same x v y w
-add-none same {x} {v} {y} {w} hx hv hy hw =
-    within-none addV (add-sub-within .0) same hx hv hy hw (rule-lt hv hw (wrapped-lt (low x v + low y w)) (wrapped-lt (high x v + high y w)))
+pub add-none : NoneMore addV
+add-none =
+    within-none addV (add-sub-within .0) (λ same x v y w hv hw. rule-lt hv hw (wrapped-lt (low x v + low y w)) (wrapped-lt (high x v + high y w)))
 
-pub sub-none : (same : Bool) {x v y w : ℕ} → x < 2 ^ 32 → v < 2 ^ 32 → y < 2 ^ 32 → w < 2 ^ 32 → {t : Bool} → t ≡ eqb (UifU v w) 0 → t ≡ true → 0 ≡ subV same x v y w
-sub-none same {x} {v} {y} {w} hx hv hy hw =
-    within-none subV (add-sub-within .1) same hx hv hy hw (rule-lt hv hw (wrapped-lt (low x v + (2 ^ 32 - high y w))) (wrapped-lt (high x v + (2 ^ 32 - low y w))))
+pub sub-none : NoneMore subV
+sub-none =
+    within-none subV (add-sub-within .1)
+    (λ same x v y w hv hw. rule-lt hv hw (wrapped-lt (low x v + (2 ^ 32 - high y w))) (wrapped-lt (high x v + (2 ^ 32 - low y w))))

@@ -41,20 +41,27 @@ pinned =
     -- ours
     ∷ moves 0xDEAD_BEEF 0x0F0F_0F0F 0xDEAD_BEEF 0x0F0F_0F0F
     ∷ does Add false 0xFFFF_FFFF 0 0x8000_0001 0 0x8000_0000 0
-    ∷ does Add false 0 0 0 0x100 0 0x100
+    ∷ does Add false 1 0 0 3 1 7
     ∷ does Add false 0x36 2 0xA 0 0x40 0x7E
     ∷ does Add false 0xFFFF_FE00 0x100 0x100 0 0xFFFF_FF00 0xFFFF_FF00
     ∷ does Add false 0x1234_5678 0xFF00 0x100 0 0x1234_5778 0x0001_FF00
     ∷ does Add false 5 1 2 4 7 0xD
+    ∷ does Add false 4 3 4 5 8 0xF
     ∷ does Add false 0 0x10 0 0x10 0 0x30
+    ∷ does Add false 0x4000_0000 0x4000_0000 0x4000_0000 0 0x8000_0000 0xC000_0000
     ∷ does Add false 0 0x8000_0000 0x8000_0000 0 0x8000_0000 0x8000_0000
     ∷ does Add false 0 0x8000_0000 0 0x8000_0000 0 0x8000_0000
     ∷ does Add true 1 1 1 1 2 3
     ∷ does Sub false 0 0 1 0x10 0xFFFF_FFFF 0x10
     ∷ does Sub false 0 0 0 0x10 0 0xFFFF_FFF0
     ∷ does Sub false 0x40 0 2 2 0x3E 0x7E
+    ∷ does Sub false 0x40 0 0 3 0x40 0x7F
     ∷ does Sub false 0x12 2 2 0 0x10 0x1E
+    ∷ does Sub false 4 0xB 1 0 3 0xF
     ∷ does Sub false 6 2 1 4 5 0xFFFF_FFFE
+    ∷ does Sub false 8 5 6 3 2 0xF
+    ∷ does Sub false 0x6000_0000 0x2000_0000 0x2000_0000 0x2000_0000 0x4000_0000 0x6000_0000
+    ∷ does Sub false 0 0x4000_0000 0x4000_0000 0 0xC000_0000 0xC000_0000
     ∷ does Sub false 0 0 0 0x8000_0000 0 0x8000_0000
     ∷ does Sub false 0 0x8000_0000 0 0x8000_0000 0 0x8000_0000
     ∷ does Sub true 0 1 0 1 0 allOnes

@@ -31,7 +31,7 @@ Rule = Bool → ℕ → ℕ → ℕ → ℕ → ℕ
 abbrev pub movV : ℕ → ℕ
 movV v = v
 
--- Left of both: carries may reach every bit above (01's rule for ADD, SUB and MUL; 000, 2.6, addition and subtraction)
+-- Left of both: carries may reach every bit above (01's rule for ADD, SUB and MUL, of which MUL keeps it; 000, 2.6, addition and subtraction)
 abbrev pub leftV : Rule
 leftV same x v y w = Left (UifU v w)
 
@@ -42,7 +42,7 @@ low x v = bitAnd x (inverted v)
 abbrev pub high : ℕ → ℕ → ℕ
 high x v = bitOr x v
 
--- ADD (02, L13; 000, 2.8, asks for it): undefined where either is, and where the sums of the least and of the greatest operands differ
+-- ADD (02, L13; 000, 2.8, speaks of a finer rule for adds and subtracts and does not give it): undefined where either is, and where the sums of the least and of the greatest operands differ
 abbrev pub addV : Rule
 addV same x v y w = bitOr (UifU v w) (bitXor (addOf (low x v) (low y w)) (addOf (high x v) (high y w)))
 
@@ -50,7 +50,7 @@ addV same x v y w = bitOr (UifU v w) (bitXor (addOf (low x v) (low y w)) (addOf 
 abbrev pub subV : Rule
 subV same x v y w = bitOr (UifU v w) (bitXor (subOf (low x v) (high y w)) (subOf (high x v) (low y w)))
 
--- MUL (01) keeps Left
+-- MUL (01; 02, L13)
 abbrev pub mulV : Rule
 mulV = leftV
 

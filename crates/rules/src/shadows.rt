@@ -55,7 +55,8 @@ fn high(x: Data, v: Shadow) -> Data
     Data(x.0 | v.0)
 }
 
-// Undefined where either operand is, and where the results at both ends of what the operands can be differ.
+// Undefined where either operand is, and where the results differ at the two ends of what the operands
+// can be. Both results are wrapped, so that either may be the smaller number.
 fn spread(v: Shadow, w: Shadow, least: Data, greatest: Data) -> Shadow
     ensures { λ r. ⌜ r .0 ≡ bitOr (UifU (v .0) (w .0)) (bitXor (least .0) (greatest .0)) ⌝ }
 {

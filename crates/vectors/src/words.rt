@@ -10,7 +10,7 @@ use rules::Shadow;
 // An operation, whether both operands are one register, and x, v, y and w.
 struct Case(Operation, bool, u32, u32, u32, u32);
 
-const CASES: usize = 63;
+const CASES: usize = 70;
 
 // The rows of rules/specs/Pinned.antt: first those that document 01 pins, ADD's and EQ's as 02 amends it.
 const TABLE: [Case; CASES] = [
@@ -38,20 +38,41 @@ const TABLE: [Case; CASES] = [
     Case(Operation::Mul, false, 0xffff_ffff, 0, 0xffff_ffff, 0),
     // ours
     Case(Operation::Add, false, 0xffff_ffff, 0, 0x8000_0001, 0),
-    Case(Operation::Add, false, 0, 0, 0, 0x100),
+    Case(Operation::Add, false, 1, 0, 0, 3),
     Case(Operation::Add, false, 0x36, 2, 0xa, 0),
     Case(Operation::Add, false, 0xffff_fe00, 0x100, 0x100, 0),
     Case(Operation::Add, false, 0x1234_5678, 0xff00, 0x100, 0),
     Case(Operation::Add, false, 5, 1, 2, 4),
+    Case(Operation::Add, false, 4, 3, 4, 5),
     Case(Operation::Add, false, 0, 0x10, 0, 0x10),
+    Case(
+        Operation::Add,
+        false,
+        0x4000_0000,
+        0x4000_0000,
+        0x4000_0000,
+        0,
+    ),
     Case(Operation::Add, false, 0, 0x8000_0000, 0x8000_0000, 0),
     Case(Operation::Add, false, 0, 0x8000_0000, 0, 0x8000_0000),
     Case(Operation::Add, true, 1, 1, 1, 1),
     Case(Operation::Sub, false, 0, 0, 1, 0x10),
     Case(Operation::Sub, false, 0, 0, 0, 0x10),
     Case(Operation::Sub, false, 0x40, 0, 2, 2),
+    Case(Operation::Sub, false, 0x40, 0, 0, 3),
     Case(Operation::Sub, false, 0x12, 2, 2, 0),
+    Case(Operation::Sub, false, 4, 0xb, 1, 0),
     Case(Operation::Sub, false, 6, 2, 1, 4),
+    Case(Operation::Sub, false, 8, 5, 6, 3),
+    Case(
+        Operation::Sub,
+        false,
+        0x6000_0000,
+        0x2000_0000,
+        0x2000_0000,
+        0x2000_0000,
+    ),
+    Case(Operation::Sub, false, 0, 0x4000_0000, 0x4000_0000, 0),
     Case(Operation::Sub, false, 0, 0, 0, 0x8000_0000),
     Case(Operation::Sub, false, 0, 0x8000_0000, 0, 0x8000_0000),
     Case(Operation::Sub, true, 0, 1, 0, 1),
