@@ -62,7 +62,7 @@ const TABLE: [Case; CASES] = [
     Case(Operation::Sub, false, 0x40, 0, 0, 3),
     Case(Operation::Sub, false, 0x12, 2, 2, 0),
     Case(Operation::Sub, false, 4, 0xb, 1, 0),
-    Case(Operation::Sub, false, 6, 2, 1, 4),
+    Case(Operation::Sub, false, 0x12, 2, 1, 4),
     Case(Operation::Sub, false, 8, 5, 6, 3),
     Case(
         Operation::Sub,
