@@ -1,4 +1,4 @@
--- ADD, SUB and MUL: an operation whose low bits depend on the operands' low bits alone is sound under Left.
+-- An operation whose low bits depend on the operands' low bits alone is sound under Left: so is MUL. ADD and SUB have finer rules (Sum.antt), which call nothing more undefined.
 use mathlib.Core.Path.{_≡_, refl, sym, ap, ap₂, _∙_, subst}
 use mathlib.Core.Logic.{_↔_, ⊎-elim}
 use mathlib.Core.Bool.{Bool, true}

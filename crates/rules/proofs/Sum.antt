@@ -80,6 +80,33 @@ alike-ends {v} {x} hv hx =
     alike-below 32 hv (and-lt 32 x (inverted v) hx (omega arith)) (or-lt 32 x v hx hv)
     (λ i l z. omega (arith, bit-low i x v l hv, bit-or i x v, bit-lt i x))
 
+-- words that agree in the defined bits have the same ends
+same-ends : {v x x′ : ℕ} → Alike 32 v x x′ → (low x v ≡ low x′ v) × (high x v ≡ high x′ v)
+unfolding Agree
+same-ends {v} {x} {x′} a = (
+  bits-equal 32 (low x v) (low x′ v) (and-lt 32 x (inverted v) (a .first) (omega arith)) (and-lt 32 x′ (inverted v) (a .second) (omega arith))
+      (λ i l.
+      ⊎-elim
+      (λ (z : bit i v ≡ 0). omega (arith, bit-low i x v l (a .shadow), bit-low i x′ v l (a .shadow), a .agree i z))
+      (λ (o : bit i v ≡ 1). omega (arith, bit-low i x v l (a .shadow), bit-low i x′ v l (a .shadow)))
+      (zero-or-one i v)),
+  bits-equal 32 (high x v) (high x′ v) (or-lt 32 x v (a .first) (a .shadow)) (or-lt 32 x′ v (a .second) (a .shadow))
+      (λ i l.
+      ⊎-elim
+      (λ (z : bit i v ≡ 0). omega (arith, bit-or i x v, bit-or i x′ v, a .agree i z))
+      (λ (o : bit i v ≡ 1). omega (arith, bit-or i x v, bit-or i x′ v, bit-lt i x, bit-lt i x′))
+      (zero-or-one i v)),
+)
+
+-- so what the data have in undefined bits never changes V (02, L13)
+pub add-sub-by-v : (same : Bool) {v x x′ w y y′ : ℕ} → Alike 32 v x x′ → Alike 32 w y y′ → (addV same x v y w ≡ addV same x′ v y′ w) × (subV same x v y w ≡ subV same x′ v y′ w)
+add-sub-by-v same {v} {x} {x′} {w} {y} {y′} a b =
+    let p : (low x v ≡ low x′ v) × (high x v ≡ high x′ v) = same-ends a in
+    let q : (low y w ≡ low y′ w) × (high y w ≡ high y′ w) = same-ends b in (
+      ap₂ (λ (k m : ℕ). bitOr (UifU v w) (bitXor k m)) (ap₂ addOf (p .0) (q .0)) (ap₂ addOf (p .1) (q .1)),
+      ap₂ (λ (k m : ℕ). bitOr (UifU v w) (bitXor k m)) (ap₂ subOf (p .0) (q .1)) (ap₂ subOf (p .1) (q .0)),
+    )
+
 -- ---- sums with a carry that comes in: 0 for ADD, 1 for SUB
 abbrev sum : ℕ → ℕ → ℕ → ℕ
 sum c x y = wrapped (x + y + c)
