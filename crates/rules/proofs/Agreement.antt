@@ -1,13 +1,15 @@
 -- Laws of agreement: what is kept when both machines do the same to numbers that agree.
 use mathlib.Core.Path.{_≡_, refl, sym, ap, ap₂, _∙_}
 use mathlib.Core.Logic.{_⊎_, ⊎-elim}
+use mathlib.Core.Bool.{Bool}
 use Prim.Native.Nat.{ℕ, _-_, _^_, _≤_, _<_, max}
 use native.Mathlib.Nat.{lt-of-lt-of-le}
 use native.Mathlib.Omega.{arith}
 use lib.Pow.{pow-mono, ones-lt}
 use lib.Bits.{bitOr, or-lt}
 use Rattle.rules.specs.Word.{bit, inverted}
-use Rattle.rules.specs.Agreement.{Agree, Alike}
+use Rattle.rules.specs.Shadows.{Rule, UifU}
+use Rattle.rules.specs.Agreement.{Agree, Alike, Sound}
 use Rattle.rules.proofs.Bits.{lt-or-ge, bit-zero, bit-high, bit-or, bit-not, bit-ones, bits-equal}
 
 -- it is enough to look at the n low bits
@@ -55,6 +57,22 @@ alike-wider m l a =
       second = lt-of-lt-of-le (a .second) (pow-mono l);
       agree = a .agree;
     }
+
+-- more bits may be called undefined
+alike-more : {n v x x′ : ℕ} (u : ℕ) → u < 2 ^ n → Alike n v x x′ → Alike n (UifU v u) x x′
+unfolding Agree
+alike-more {n} {v} u h a =
+    record {
+      shadow = or-lt n v u (a .shadow) h;
+      first = a .first;
+      second = a .second;
+      agree = λ i z. a .agree i (omega (arith, sym (bit-or i v u) ∙ z));
+    }
+
+-- so a sound rule stays sound if it calls more undefined: soundness lets false alarms through, and what keeps them out is 02, L14 (proofs/Alarms.antt)
+pub sound-more : (f : ℕ → ℕ → ℕ) (rule more : Rule) → ((same : Bool) (x v y w : ℕ) → more same x v y w < 2 ^ 32) → Sound f rule → Sound f (λ same x v y w. UifU (rule same x v y w) (more same x v y w))
+unfolding Sound
+sound-more f rule more range sound same x v x′ y w y′ one a b = alike-more (more same x v y w) (range same x v y w) (sound same x v x′ y w y′ one a b)
 
 -- an operation that works bit by bit is sound under UifU
 module _ (op f : ℕ → ℕ → ℕ)

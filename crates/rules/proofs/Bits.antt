@@ -1,5 +1,5 @@
 -- The bits of a number, and of what the operations on numbers give.
-use mathlib.Core.Path.{_≡_, refl, sym, ap, ap₂, _∙_, subst}
+use mathlib.Core.Path.{_≡_, sym, ap, ap₂, _∙_, subst}
 use mathlib.Core.Logic.{_⊎_, inl, inr, ⊎-elim}
 use mathlib.Core.Bool.{Bool, true, false, cond}
 use Prim.Native.Nat.{ℕ, zero, suc, _+_, _-_, _*_, _/_, _%_, _^_, _≤_, _<_, min, max}
@@ -63,23 +63,21 @@ bit-and = bit-op bitAnd min and-shr and-step (λ x y hx hy. omega arith)
 pub bit-or : (i a b : ℕ) → bit i (bitOr a b) ≡ max (bit i a) (bit i b)
 bit-or = bit-op bitOr max or-shr or-step (λ x y hx hy. omega arith)
 
-differ-small : (x y : ℕ) → x < 2 → y < 2 → differ x y < 2
-differ-small zero y hx hy = hy
-differ-small (suc x) zero hx hy = hx
-differ-small (suc x) (suc y) hx hy = differ-small x y (omega arith) (omega arith)
+-- two digits differ by their sum less twice what both have
+pub differ-sum : (a b : ℕ) → differ a b + min a b * 2 ≡ a + b
+differ-sum zero b = omega arith
+differ-sum (suc a) zero = omega arith
+differ-sum (suc a) (suc b) = omega (arith, differ-sum a b)
 
 pub bit-xor : (i a b : ℕ) → bit i (bitXor a b) ≡ differ (bit i a) (bit i b)
-bit-xor = bit-op bitXor differ xor-shr xor-step differ-small
+bit-xor = bit-op bitXor differ xor-shr xor-step (λ x y hx hy. omega (arith, differ-sum x y))
 
 -- digits are equal exactly if they do not differ
 pub differ-self : (b : ℕ) → differ b b ≡ 0
-differ-self zero = refl
-differ-self (suc b) = differ-self b
+differ-self b = omega (arith, differ-sum b b)
 
 pub differ-none : (a b : ℕ) → differ a b ≡ 0 → a ≡ b
-differ-none zero b e = sym e
-differ-none (suc a) zero e = e
-differ-none (suc a) (suc b) e = ap suc (differ-none a b e)
+differ-none a b e = omega (arith, differ-sum a b)
 
 -- ---- the low digits
 pub bit-mod : (i k x : ℕ) → i < k → bit i (x % 2 ^ k) ≡ bit i x

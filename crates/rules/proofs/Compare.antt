@@ -1,6 +1,6 @@
 -- LTU and EQ: LTU's rule is sound for any test of two words; EQ's is the same, but where a defined difference tells the words apart.
 use mathlib.Core.Path.{_≡_, refl, sym, ap, ap₂, _∙_, subst₂}
-use mathlib.Core.Logic.{_↔_, _⊎_, inl, inr, ⊎-elim}
+use mathlib.Core.Logic.{_↔_, ⊎-elim}
 use mathlib.Core.Bool.{Bool, true, false, cond, not, _||_}
 use Prim.Native.Nat.{ℕ, _-_, _^_, _≤_, _<_, min, max}
 use native.Mathlib.Omega.{arith}
@@ -63,22 +63,6 @@ apart-none x v y w hx hv hy hw = (agrees, none)
         (λ (o : bit i (UifU v w) ≡ 1). omega arith)
         (zero-or-one i (UifU v w))
         ∙ sym (bit-zero i))
-
--- the words agree in each bit that is defined on both sides, and some bit of either is undefined
-abbrev pub Unsettled : ℕ → ℕ → ℕ → ℕ → Type 0
-Unsettled x v y w = Agree (UifU v w) x y × (UifU v w ≡ 0 → ⊥)
-
--- what the rule comes to: V 1 exactly there, and V 0 elsewhere
-pub eq-undefined : (same : Bool) (x v y w : ℕ) → x < 2 ^ 32 → v < 2 ^ 32 → y < 2 ^ 32 → w < 2 ^ 32 → ((eqV same x v y w ≡ 1) × Unsettled x v y w) ⊎ ((eqV same x v y w ≡ 0) × (Unsettled x v y w → ⊥))
-eq-undefined same x v y w hx hv hy hw = go (eqb (apart x v y w) 0) (eqb (UifU v w) 0) refl refl
-  where
-    none : (apart x v y w ≡ 0) ↔ Agree (UifU v w) x y
-    none = apart-none x v y w hx hv hy hw
-
-    go : (s d : Bool) → eqb (apart x v y w) 0 ≡ s → eqb (UifU v w) 0 ≡ d → ((cond {A = ℕ} (not s || d) 0 1 ≡ 1) × Unsettled x v y w) ⊎ ((cond {A = ℕ} (not s || d) 0 1 ≡ 0) × (Unsettled x v y w → ⊥))
-    go true false s d = inl (refl, (none .0 (eqb-true (apart x v y w) 0 s), eqb-false (UifU v w) 0 d))
-    go true true s d = inr (refl, λ u. u .1 (eqb-true (UifU v w) 0 d))
-    go false _ s d = inr (refl, λ u. eqb-false (apart x v y w) 0 s (none .1 (u .0)))
 
 -- words that are equal on one machine agree on the other in each bit that is defined on both sides
 equal-agree : {v x x′ w y y′ : ℕ} → Alike 32 v x x′ → Alike 32 w y y′ → x′ ≡ y′ → Agree (UifU v w) x y

@@ -9,4 +9,5 @@ pub mod Bitwise
 pub mod Shift
 pub mod Compare
 pub mod Sound
+pub mod Alarms
 pub mod Pinned

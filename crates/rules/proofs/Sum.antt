@@ -49,7 +49,7 @@ unfolding carry
 carry-le c i {x} {x′} {y} {y′} l p q = shr-mono i (omega (arith, low-le i x x′ (omega arith) p, low-le i y y′ (omega arith) q))
 
 -- ---- an operand lies between its least and its greatest word
-bit-low : (i x v : ℕ) → i < 32 → v < 2 ^ 32 → bit i (low x v) ≡ min (bit i x) (1 - bit i v)
+pub bit-low : (i x v : ℕ) → i < 32 → v < 2 ^ 32 → bit i (low x v) ≡ min (bit i x) (1 - bit i v)
 bit-low i x v l hv = bit-and i x (inverted v) ∙ ap (min (bit i x)) (bit-not 32 i v l hv)
 
 above-low : {v x x′ : ℕ} → Alike 32 v x x′ → AtMost (low x v) x′

@@ -4,4 +4,5 @@ pub mod Shadows
 pub mod Operations
 pub mod Bytes
 pub mod Agreement
+pub mod Alarms
 pub mod Pinned

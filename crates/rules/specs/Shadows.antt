@@ -83,7 +83,7 @@ sarV = shiftV sarOf
 abbrev pub apart : ℕ → ℕ → ℕ → ℕ → ℕ
 apart x v y w = bitAnd (bitXor x y) (inverted (UifU v w))
 
--- EQ (02, L4; 002, 3.3.4): V 0 if some bit is defined on both sides and differs, or if no bit of either is undefined; otherwise V 1 (`eq-undefined` shows when)
+-- EQ (02, L4; 002, 3.3.4): V 0 if some bit is defined on both sides and differs, or if no bit of either is undefined; otherwise V 1 (`eq-undefined` of proofs/Alarms.antt shows when)
 abbrev pub eqV : Rule
 eqV same x v y w = cond (not (eqb (apart x v y w) 0) || eqb (UifU v w) 0) 0 1
 

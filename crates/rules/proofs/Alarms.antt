@@ -1,0 +1,267 @@
+-- The alarms are real (02, L14). A sound rule calls every varying bit undefined; and for a bit that it calls undefined each rule has two choices that give it different values.
+use mathlib.Core.Path.{_≡_, refl, sym, ap, ap₂, _∙_}
+use mathlib.Core.Logic.{_↔_, _⊎_, inl, inr, ⊎-elim}
+use mathlib.Core.Bool.{Bool, true, false, true≢false, cond, not, _||_}
+use Prim.Native.Nat.{ℕ, zero, _-_, _^_, _≤_, _<_, min, max}
+use native.Mathlib.Nat.{eq-zero-or-pos}
+use native.Mathlib.Omega.{arith}
+use borrow.Author.Tests.{eqb-true, eqb-false, eq-eqb, ne-eqb}
+use lib.Dec.{eqb}
+use lib.Bits.{bitAnd, bitOr, bitXor, differ, and-lt, or-lt, xor-lt}
+use Rattle.rules.specs.Word.{bit, inverted, oneIf, allOnes}
+use Rattle.rules.specs.Actions.{movOf, andOf, orOf, xorOf, shlOf, shrOf, sarOf, eqOf}
+use Rattle.rules.specs.Shadows.{UifU, low, high, movV, andV, orV, xorV, shiftV, apart, eqV}
+use Rattle.rules.specs.Operations.{actionOf, shadowOf}
+use Rattle.rules.specs.Agreement.{Agree, Alike, Sound}
+use Rattle.rules.specs.Alarms.{Choice, Varies, ResultVaries, Claimed, and, or, xor, eq, shl, shr, sar, claimed, Covered, Real, MovReal}
+use Rattle.rules.proofs.Bits.{lt-or-ge, bit-lt, bit-zero, bit-high, zero-or-one, bit-and, bit-or, bit-xor, differ-sum, bits-equal, bit-not}
+use Rattle.rules.proofs.Agreement.{alike-below, alike-self, Moves}
+use Rattle.rules.proofs.Bitwise.{and-rule}
+use Rattle.rules.proofs.Sum.{bit-low}
+use Rattle.rules.proofs.Shift.{shl-moves, shr-moves, sar-moves}
+use Rattle.rules.proofs.Compare.{apart-none}
+use Rattle.rules.proofs.Sound.{mov-sound, sound}
+
+-- ---- the shared fact: a bit that varies is not one in which every choice agrees with the data
+pub varies-undefined : {C : Type 0} {result : C → ℕ} (u z i : ℕ) → ((c : C) → Agree u z (result c)) → Varies C result i → bit i u ≡ 1
+unfolding Agree
+varies-undefined u z i agree t =
+    ⊎-elim
+    (λ (d : bit i u ≡ 0). absurd (t .differ (sym (agree (t .one) i d) ∙ agree (t .other) i d)))
+    (λ (o : bit i u ≡ 1). o)
+    (zero-or-one i u)
+
+-- ---- choices
+itself : {x v : ℕ} → x < 2 ^ 32 → v < 2 ^ 32 → Choice x v
+itself {x} hx hv = record { word = x; alike = alike-self hv hx }
+
+-- every undefined bit 0, and every one 1
+least : {x v : ℕ} → x < 2 ^ 32 → v < 2 ^ 32 → Choice x v
+least {x} {v} hx hv =
+    record {
+      word = low x v;
+      alike = alike-below 32 hv hx (and-lt 32 x (inverted v) hx (omega arith)) (λ i l z. omega (arith, bit-low i x v l hv, bit-lt i x));
+    }
+
+greatest : {x v : ℕ} → x < 2 ^ 32 → v < 2 ^ 32 → Choice x v
+greatest {x} {v} hx hv =
+    record { word = high x v; alike = alike-below 32 hv hx (or-lt 32 x v hx hv) (λ i l z. omega (arith, bit-or i x v)) }
+
+-- another choice: every undefined bit is what it is not in this one
+flipped : {x v : ℕ} → Choice x v → Choice x v
+unfolding Agree
+flipped {x} {v} c =
+    record {
+      word = bitXor (c .word) v;
+      alike = record {
+        shadow = c .alike .shadow;
+        first = c .alike .first;
+        second = xor-lt 32 (c .word) v (c .alike .second) (c .alike .shadow);
+        agree = λ i z. omega (arith, c .alike .agree i z, bit-xor i (c .word) v, differ-sum (bit i (c .word)) (bit i v));
+      };
+    }
+
+flipped-bit : (i c v : ℕ) → bit i v ≡ 1 → bit i (bitXor c v) ≡ 1 - bit i c
+flipped-bit i c v o = omega (arith, bit-xor i c v, differ-sum (bit i c) (bit i v), bit-lt i c)
+
+-- a number of 32 bits has a bit set only below 32
+set-below : {x : ℕ} (i : ℕ) → x < 2 ^ 32 → bit i x ≡ 1 → i < 32
+set-below {x} i h o = ⊎-elim (λ (l : i < 32). l) (λ (l : 32 ≤ i). absurd (omega (arith, o, bit-high 32 i x h l))) (lt-or-ge i 32)
+
+-- ---- AND, OR and XOR: the undefined bits of one operand are flipped, while the other is held at a choice that lets both values of the bit through
+either : (i v w : ℕ) → max (bit i v) (bit i w) ≡ 1 → (bit i v ≡ 1) ⊎ (bit i w ≡ 1)
+either i v w o = ⊎-elim (λ (z : bit i v ≡ 0). inr (omega (arith, o, z))) (λ (u : bit i v ≡ 1). inl u) (zero-or-one i v)
+
+module _ (op f : ℕ → ℕ → ℕ) (bits : (i a b : ℕ) → bit i (op a b) ≡ f (bit i a) (bit i b)) (i : ℕ) {x v y w : ℕ} (c : Choice x v) (d : Choice y w) where
+  first-varies : bit i v ≡ 1 → ((b : ℕ) → b < 2 → f b (bit i (d .word)) ≡ f (1 - b) (bit i (d .word)) → ⊥) → ResultVaries op x v y w i
+  unfolding flipped
+  first-varies u n =
+      record {
+        one = (c, d);
+        other = (flipped c, d);
+        differ = λ s.
+            n (bit i (c .word)) (bit-lt i (c .word))
+            (sym (bits i (c .word) (d .word)) ∙ s ∙ bits i (bitXor (c .word) v) (d .word) ∙ ap (λ (b : ℕ). f b (bit i (d .word))) (flipped-bit i (c .word) v u));
+      }
+
+  second-varies : bit i w ≡ 1 → ((b : ℕ) → b < 2 → f (bit i (c .word)) b ≡ f (bit i (c .word)) (1 - b) → ⊥) → ResultVaries op x v y w i
+  unfolding flipped
+  second-varies u n =
+      record {
+        one = (c, d);
+        other = (c, flipped d);
+        differ = λ s.
+            n (bit i (d .word)) (bit-lt i (d .word))
+            (sym (bits i (c .word) (d .word)) ∙ s ∙ bits i (c .word) (bitXor (d .word) w) ∙ ap (f (bit i (c .word))) (flipped-bit i (d .word) w u));
+      }
+
+-- what AND's rule says of a bit that it calls undefined: each operand's is 1, or can be
+and-parts : (i x v y w : ℕ) → bit i (andV false x v y w) ≡ 1 → (max (bit i v) (bit i w) ≡ 1) × (bit i (high x v) ≡ 1) × (bit i (high y w) ≡ 1)
+and-parts i x v y w o = parts (max (bit i v) (bit i w)) (bit i (high x v)) (bit i (high y w)) (omega (arith, bit-lt i v, bit-lt i w)) (bit-lt i (high x v)) (bit-lt i (high y w)) e
+  where
+    parts : (p q r : ℕ) → p < 2 → q < 2 → r < 2 → min (min p q) r ≡ 1 → (p ≡ 1) × (q ≡ 1) × (r ≡ 1)
+    parts p q r hp hq hr e = (omega arith, omega arith, omega arith)
+
+    e : min (min (max (bit i v) (bit i w)) (bit i (high x v))) (bit i (high y w)) ≡ 1
+    e = ap₂ (λ (q r : ℕ). min (min (max (bit i v) (bit i w)) q) r) (bit-or i x v) (bit-or i y w) ∙ sym (and-rule i x v y w false) ∙ o
+
+module _ (i : ℕ) {x v y w : ℕ} (l : i < 32) (hx : x < 2 ^ 32) (hv : v < 2 ^ 32) (hy : y < 2 ^ 32) (hw : w < 2 ^ 32) where
+  and-varies : bit i (andV false x v y w) ≡ 1 → ResultVaries andOf x v y w i
+  unfolding greatest
+  and-varies o =
+      let t : (max (bit i v) (bit i w) ≡ 1) × (bit i (high x v) ≡ 1) × (bit i (high y w) ≡ 1) = and-parts i x v y w o in
+      ⊎-elim
+      (λ u. first-varies andOf min bit-and i (itself hx hv) (greatest hy hw) u (λ b h s. omega (arith, s, t .2)))
+      (λ u. second-varies andOf min bit-and i (greatest hx hv) (itself hy hw) u (λ b h s. omega (arith, s, t .1)))
+      (either i v w (t .0))
+
+  or-varies : bit i (orV false x v y w) ≡ 1 → ResultVaries orOf x v y w i
+  unfolding least
+  or-varies o =
+      let t : (max (bit i v) (bit i w) ≡ 1) × (bit i (high (inverted x) v) ≡ 1) × (bit i (high (inverted y) w) ≡ 1) = and-parts i (inverted x) v (inverted y) w o in
+      ⊎-elim
+      (λ u. first-varies orOf max bit-or i (itself hx hv) (least hy hw) u (λ b h s. omega (arith, s, low-clear y w hy hw (t .2))))
+      (λ u. second-varies orOf max bit-or i (least hx hv) (itself hy hw) u (λ b h s. omega (arith, s, low-clear x v hx hv (t .1))))
+      (either i v w (t .0))
+    where
+      low-clear : (z u : ℕ) → z < 2 ^ 32 → u < 2 ^ 32 → bit i (high (inverted z) u) ≡ 1 → bit i (low z u) ≡ 0
+      low-clear z u hz hu e = omega (arith, e, bit-or i (inverted z) u, bit-not 32 i z l hz, bit-low i z u l hu, bit-lt i z)
+
+  xor-varies : bit i (xorV false x v y w) ≡ 1 → ResultVaries xorOf x v y w i
+  unfolding itself
+  xor-varies o =
+      ⊎-elim
+      (λ u. first-varies xorOf differ bit-xor i (itself hx hv) (itself hy hw) u (λ b h s. omega (arith, s, differ-sum b (bit i y), differ-sum (1 - b) (bit i y), bit-lt i y)))
+      (λ u. second-varies xorOf differ bit-xor i (itself hx hv) (itself hy hw) u (λ b h s. omega (arith, s, differ-sum (bit i x) b, differ-sum (bit i x) (1 - b), bit-lt i x)))
+      (either i v w (sym (bit-or i v w) ∙ o))
+
+-- ---- a shift by a defined amount: the undefined bits of the first operand are flipped, and move as they are
+shift-varies : (f : ℕ → ℕ → ℕ) → ((y : ℕ) → Moves 32 (λ x. f x y)) → (i : ℕ) {x v y w : ℕ} → x < 2 ^ 32 → v < 2 ^ 32 → y < 2 ^ 32 → w ≡ 0 → bit i (shiftV f false x v y w) ≡ 1 → ResultVaries f x v y w i
+unfolding Moves itself flipped
+shift-varies f moves i {x} {v} {y} {w} hx hv hy e o = ⊎-elim moved clear (moves y i)
+  where
+    here : bit i (f v y) ≡ 1
+    here = ap (λ (n : ℕ). bit i (cond (eqb n 0) (f v y) allOnes)) (sym e) ∙ o
+
+    moved : (j : ℕ) × ((z : ℕ) → z < 2 ^ 32 → bit i (f z y) ≡ bit j z) → ResultVaries f x v y w i
+    moved t =
+        record {
+          one = (itself hx hv, itself hy (omega arith));
+          other = (flipped (itself hx hv), itself hy (omega arith));
+          differ = λ s.
+              omega (arith, s, t .1 x hx, t .1 (bitXor x v) (xor-lt 32 x v hx hv), flipped-bit (t .0) x v (sym (t .1 v hv) ∙ here), bit-lt (t .0) x);
+        }
+
+    clear : ((z : ℕ) → z < 2 ^ 32 → bit i (f z y) ≡ 0) → ResultVaries f x v y w i
+    clear t = absurd (omega (arith, here, t v hv))
+
+-- ---- EQ
+-- the words agree in each bit that is defined on both sides, and some bit of either is undefined
+abbrev Unsettled : ℕ → ℕ → ℕ → ℕ → Type 0
+Unsettled x v y w = Agree (UifU v w) x y × (UifU v w ≡ 0 → ⊥)
+
+-- what the rule comes to: V 1 exactly there, and V 0 elsewhere
+pub eq-undefined : (same : Bool) (x v y w : ℕ) → x < 2 ^ 32 → v < 2 ^ 32 → y < 2 ^ 32 → w < 2 ^ 32 → ((eqV same x v y w ≡ 1) × Unsettled x v y w) ⊎ ((eqV same x v y w ≡ 0) × (Unsettled x v y w → ⊥))
+eq-undefined same x v y w hx hv hy hw = go (eqb (apart x v y w) 0) (eqb (UifU v w) 0) refl refl
+  where
+    none : (apart x v y w ≡ 0) ↔ Agree (UifU v w) x y
+    none = apart-none x v y w hx hv hy hw
+
+    go : (s d : Bool) → eqb (apart x v y w) 0 ≡ s → eqb (UifU v w) 0 ≡ d → ((cond {A = ℕ} (not s || d) 0 1 ≡ 1) × Unsettled x v y w) ⊎ ((cond {A = ℕ} (not s || d) 0 1 ≡ 0) × (Unsettled x v y w → ⊥))
+    go true false s d = inl (refl, (none .0 (eqb-true (apart x v y w) 0 s), eqb-false (UifU v w) 0 d))
+    go true true s d = inr (refl, λ u. u .1 (eqb-true (UifU v w) 0 d))
+    go false _ s d = inr (refl, λ u. eqb-false (apart x v y w) 0 s (none .1 (u .0)))
+
+-- its two choices: one word for both operands, and then one of them with all its undefined bits flipped
+flipped-other : (z v : ℕ) → v < 2 ^ 32 → (v ≡ 0 → ⊥) → bitXor z v ≡ z → ⊥
+flipped-other z v hv n e =
+    n (bits-equal 32 v 0 hv (omega arith) (λ i l. omega (arith, ap (bit i) (sym e) ∙ bit-xor i z v, differ-sum (bit i z) (bit i v), bit-lt i v, bit-zero i)))
+
+module _ (i : ℕ) {x v y w : ℕ} (hx : x < 2 ^ 32) (hv : v < 2 ^ 32) (hy : y < 2 ^ 32) (hw : w < 2 ^ 32) where
+  -- the word: what is defined in x, and y's bits elsewhere
+  joined : ℕ
+  joined = bitOr (low x v) (bitAnd y v)
+
+  joined-bit : (j : ℕ) → j < 32 → bit j joined ≡ max (min (bit j x) (1 - bit j v)) (min (bit j y) (bit j v))
+  unfolding joined
+  joined-bit j l = bit-or j (low x v) (bitAnd y v) ∙ ap₂ max (bit-low j x v l hv) (bit-and j y v)
+
+  joined-lt : joined < 2 ^ 32
+  unfolding joined
+  joined-lt = or-lt 32 (low x v) (bitAnd y v) (and-lt 32 x (inverted v) hx (omega arith)) (and-lt 32 y v hy hv)
+
+  first-joined : Choice x v
+  first-joined = record { word = joined; alike = alike-below 32 hv hx joined-lt (λ j l z. omega (arith, joined-bit j l, bit-lt j x)) }
+
+  second-joined : Agree (UifU v w) x y → Choice y w
+  unfolding Agree
+  second-joined agree =
+      record {
+        word = joined;
+        alike =
+            alike-below 32 hw hy joined-lt
+            (λ j l z.
+            ⊎-elim
+            (λ (d : bit j v ≡ 0). omega (arith, joined-bit j l, agree j (bit-or j v w ∙ omega arith), bit-lt j x))
+            (λ (u : bit j v ≡ 1). omega (arith, joined-bit j l, bit-lt j y))
+            (zero-or-one j v));
+      }
+
+  eq-varies : bit i (eqV false x v y w) ≡ 1 → ResultVaries eqOf x v y w i
+  unfolding first-joined second-joined flipped
+  eq-varies o =
+      ⊎-elim
+      (λ t. vary (t .1) (ap (bit i) (sym (t .0)) ∙ o))
+      (λ t. absurd (omega (arith, bit-zero i, ap (bit i) (sym (t .0)) ∙ o)))
+      (eq-undefined false x v y w hx hv hy hw)
+    where
+      parted : {a b : ℕ} → bit i 1 ≡ 1 → (a ≡ b → ⊥) → bit i (eqOf joined joined) ≡ bit i (eqOf a b) → ⊥
+      parted {a} {b} u n s =
+          omega (arith, u, bit-zero i, ap (λ (t : Bool). bit i (oneIf t)) (sym (eq-eqb joined joined refl)) ∙ s ∙ ap (λ (t : Bool). bit i (oneIf t)) (ne-eqb a b n))
+
+      vary : Unsettled x v y w → bit i 1 ≡ 1 → ResultVaries eqOf x v y w i
+      vary t u =
+          ⊎-elim
+          (λ (z : v ≡ 0).
+          record {
+            one = (first-joined, second-joined (t .0));
+            other = (first-joined, flipped (second-joined (t .0)));
+            differ = parted u (λ e. flipped-other joined w hw (λ m. t .1 (ap₂ bitOr z m)) (sym e));
+          })
+          (λ (p : zero < v).
+          record {
+            one = (first-joined, second-joined (t .0));
+            other = (flipped first-joined, second-joined (t .0));
+            differ = parted u (flipped-other joined v hv (λ z. omega arith));
+          })
+          (eq-zero-or-pos v)
+
+-- ---- the theorem
+pub mov-real : MovReal
+unfolding MovReal itself flipped
+mov-real y w i hy hw = (
+  (λ o. record { one = itself hy hw; other = flipped (itself hy hw); differ = λ s. omega (arith, s, flipped-bit i y w o, bit-lt i y) }),
+  varies-undefined (movV w) (movOf y) i (λ c. mov-sound (c .alike) .agree),
+)
+
+-- the rule's V word and the result are words, and every choice agrees with the result where it is defined
+sound-choices : (o : Claimed) {x v y w : ℕ} (c : Choice x v) (d : Choice y w) → Alike 32 (shadowOf (claimed o) false x v y w) (actionOf (claimed o) x y) (actionOf (claimed o) (c .word) (d .word))
+unfolding Sound
+sound-choices o {x} {v} {y} {w} c d = sound (claimed o) false x v (c .word) y w (d .word) (λ e. absurd (true≢false (sym e))) (c .alike) (d .alike)
+
+undefined-varies : (o : Claimed) (i : ℕ) {x v y w : ℕ} → i < 32 → x < 2 ^ 32 → v < 2 ^ 32 → y < 2 ^ 32 → w < 2 ^ 32 → Covered o w → bit i (shadowOf (claimed o) false x v y w) ≡ 1 → ResultVaries (actionOf (claimed o)) x v y w i
+unfolding Covered claimed shadowOf actionOf
+undefined-varies and i l hx hv hy hw k = and-varies i l hx hv hy hw
+undefined-varies or i l hx hv hy hw k = or-varies i l hx hv hy hw
+undefined-varies xor i l hx hv hy hw k = xor-varies i l hx hv hy hw
+undefined-varies eq i l hx hv hy hw k = eq-varies i hx hv hy hw
+undefined-varies shl i l hx hv hy hw k = shift-varies shlOf shl-moves i hx hv hy k
+undefined-varies shr i l hx hv hy hw k = shift-varies shrOf shr-moves i hx hv hy k
+undefined-varies sar i l hx hv hy hw k = shift-varies sarOf sar-moves i hx hv hy k
+
+pub real : (o : Claimed) → Real o
+unfolding Real
+real o x v y w i hx hv hy hw k = (
+  (λ e. undefined-varies o i (set-below i (sound-choices o (itself hx hv) (itself hy hw) .shadow) e) hx hv hy hw k e),
+  varies-undefined (shadowOf (claimed o) false x v y w) (actionOf (claimed o) x y) i (λ c. sound-choices o (c .0) (c .1) .agree),
+)

@@ -1,0 +1,76 @@
+-- The alarms are real (02, L14): in one of the operations named here a result bit is called undefined exactly if two choices of the operands' undefined bits give it different values.
+use Prim.Native.Nat.{ℕ, _^_, _<_}
+use mathlib.Core.Path.{_≡_}
+use mathlib.Core.Logic.{_↔_}
+use mathlib.Core.Bool.{false}
+use Rattle.rules.specs.Word.{bit}
+use Rattle.rules.specs.Actions.{movOf}
+use Rattle.rules.specs.Shadows.{movV}
+use Rattle.rules.specs.Operations.{actionOf, shadowOf}
+use Rattle.rules.specs.Agreement.{Alike}
+use Rattle.rules.specs.declared.Operation.{Operation}
+use Rattle.rules.specs.declared.Operation.the-variants.{And, Or, Xor, Shl, Shr, Sar, Eq}
+
+-- a choice of the undefined bits of x: a word of 32 bits that agrees with x in every defined bit, and has there what it will in the others
+pub record Choice (x v : ℕ) : Type 0 where
+  pub word : ℕ
+  pub alike : Alike 32 v x word
+
+-- bit i of a result varies: two choices give it different values. C is all that can be chosen, `result` what comes of it.
+pub record Varies (C : Type 0) (result : C → ℕ) (i : ℕ) : Type 0 where
+  pub one : C
+  pub other : C
+  pub differ : bit i (result one) ≡ bit i (result other) → ⊥
+
+-- so of an operation on two operands, whose undefined bits are chosen each for itself
+abbrev pub ResultVaries : (ℕ → ℕ → ℕ) → (x v y w i : ℕ) → Type 0
+ResultVaries f x v y w i = Varies (Choice x v × Choice y w) (λ c. f (c .0 .word) (c .1 .word)) i
+
+-- the operations of the claim beside MOV: ADD, SUB, MUL and LTU are not among them
+pub data Claimed : Type 0 where
+  and : Claimed
+  or : Claimed
+  xor : Claimed
+  eq : Claimed
+  shl : Claimed
+  shr : Claimed
+  sar : Claimed
+
+-- each of them as an operation on two operands
+unfoldable pub claimed : Claimed → Operation
+claimed and = And
+claimed or = Or
+claimed xor = Xor
+claimed eq = Eq
+claimed shl = Shl
+claimed shr = Shr
+claimed sar = Sar
+
+-- the V words of B that the claim is about: any, but for a shift 0 alone
+unfoldable pub Covered : Claimed → ℕ → Type 0
+Covered and w = Unit {0}
+Covered or w = Unit {0}
+Covered xor w = Unit {0}
+Covered eq w = Unit {0}
+Covered shl w = w ≡ 0
+Covered shr w = w ≡ 0
+Covered sar w = w ≡ 0
+
+-- a and B are two different registers, or a register and a literal, which has w 0
+unfoldable pub Real : Claimed → Type 0
+Real o =
+    (x v y w i : ℕ)
+    → x < 2 ^ 32
+    → v < 2 ^ 32
+    → y < 2 ^ 32
+    → w < 2 ^ 32
+    → Covered o w
+    → (bit i (shadowOf (claimed o) false x v y w) ≡ 1) ↔ ResultVaries (actionOf (claimed o)) x v y w i
+
+-- MOV has one operand, B: a register or a literal
+unfoldable pub MovReal : Type 0
+MovReal =
+    (y w i : ℕ)
+    → y < 2 ^ 32
+    → w < 2 ^ 32
+    → (bit i (movV w) ≡ 1) ↔ Varies (Choice y w) (λ c. movOf (c .word)) i
