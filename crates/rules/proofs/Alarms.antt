@@ -265,3 +265,18 @@ real o x v y w i hx hv hy hw k = (
   (λ e. undefined-varies o i (set-below i (sound-choices o (itself hx hv) (itself hy hw) .shadow) e) hx hv hy hw k e),
   varies-undefined (shadowOf (claimed o) false x v y w) (actionOf (claimed o) x y) i (λ c. sound-choices o (c .0) (c .1) .agree),
 )
+
+-- ---- that it says something, on pinned cases
+-- EQ (02, L4): where nothing but an undefined bit can tell the words apart the answer varies; where bit 0 does, it does not
+pub unsettled-varies : ResultVaries eqOf 0 0x80 0 0 0
+unfolding Real Covered claimed shadowOf actionOf bit
+unsettled-varies = real eq 0 0x80 0 0 0 (omega arith) (omega arith) (omega arith) (omega arith) tt .0 refl
+
+pub settled-stays : ResultVaries eqOf 1 0x80 0 0 0 → ⊥
+unfolding Real Covered claimed shadowOf actionOf bit
+settled-stays t = omega (arith, real eq 1 0x80 0 0 0 (omega arith) (omega arith) (omega arith) (omega arith) tt .1 t)
+
+-- AND (01): a defined 0 of the mask keeps bit 1 from varying
+pub masked-stays : ResultVaries andOf 0xFFFF_FFFF allOnes 1 0 1 → ⊥
+unfolding Real Covered claimed shadowOf actionOf bit
+masked-stays t = omega (arith, real and 0xFFFF_FFFF allOnes 1 0 1 (omega arith) (omega arith) (omega arith) (omega arith) tt .1 t)

@@ -11,7 +11,7 @@ use Rattle.rules.specs.Agreement.{Alike}
 use Rattle.rules.specs.declared.Operation.{Operation}
 use Rattle.rules.specs.declared.Operation.the-variants.{And, Or, Xor, Shl, Shr, Sar, Eq}
 
--- a choice of the undefined bits of x: a word of 32 bits that agrees with x in every defined bit, and has there what it will in the others
+-- a choice of the undefined bits of x: a word of 32 bits that agrees with x in every defined bit, and may be anything in the others
 pub record Choice (x v : ℕ) : Type 0 where
   pub word : ℕ
   pub alike : Alike 32 v x word
