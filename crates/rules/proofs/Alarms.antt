@@ -61,39 +61,44 @@ flipped {x} {v} c =
       };
     }
 
-flipped-bit : (i c v : ℕ) → bit i v ≡ 1 → bit i (bitXor c v) ≡ 1 - bit i c
-flipped-bit i c v o = omega (arith, bit-xor i c v, differ-sum (bit i c) (bit i v), bit-lt i c)
+flipped-bit : {x v : ℕ} (i : ℕ) (c : Choice x v) → bit i v ≡ 1 → bit i (flipped c .word) ≡ 1 - bit i (c .word)
+unfolding flipped
+flipped-bit {x} {v} i c o = omega (arith, bit-xor i (c .word) v, differ-sum (bit i (c .word)) (bit i v), bit-lt i (c .word))
+
+flipped-other : {x v : ℕ} (c : Choice x v) → (v ≡ 0 → ⊥) → flipped c .word ≡ c .word → ⊥
+unfolding flipped
+flipped-other {x} {v} c n e =
+    n (bits-equal 32 v 0 (c .alike .shadow) (omega arith)
+    (λ i l. omega (arith, ap (bit i) (sym e) ∙ bit-xor i (c .word) v, differ-sum (bit i (c .word)) (bit i v), bit-lt i v, bit-zero i)))
 
 -- a number of 32 bits has a bit set only below 32
 set-below : {x : ℕ} (i : ℕ) → x < 2 ^ 32 → bit i x ≡ 1 → i < 32
 set-below {x} i h o = ⊎-elim (λ (l : i < 32). l) (λ (l : 32 ≤ i). absurd (omega (arith, o, bit-high 32 i x h l))) (lt-or-ge i 32)
 
--- ---- AND, OR and XOR: the undefined bits of one operand are flipped, while the other is held at a choice that lets both values of the bit through
+-- ---- each rule's two choices for a bit that it calls undefined: one operand's undefined bits are flipped, the other operand is held at a choice
+module _ (f : ℕ → ℕ → ℕ) (i : ℕ) {x v y w : ℕ} (c : Choice x v) (d : Choice y w) where
+  by-first : (bit i (f (c .word) (d .word)) ≡ bit i (f (flipped c .word) (d .word)) → ⊥) → ResultVaries f x v y w i
+  by-first n = record { one = (c, d); other = (flipped c, d); differ = n }
+
+  by-second : (bit i (f (c .word) (d .word)) ≡ bit i (f (c .word) (flipped d .word)) → ⊥) → ResultVaries f x v y w i
+  by-second n = record { one = (c, d); other = (c, flipped d); differ = n }
+
+-- ---- AND, OR and XOR: the operand in which the bit is undefined is flipped, the other lets both values of the bit through
 either : (i v w : ℕ) → max (bit i v) (bit i w) ≡ 1 → (bit i v ≡ 1) ⊎ (bit i w ≡ 1)
 either i v w o = ⊎-elim (λ (z : bit i v ≡ 0). inr (omega (arith, o, z))) (λ (u : bit i v ≡ 1). inl u) (zero-or-one i v)
 
 module _ (op f : ℕ → ℕ → ℕ) (bits : (i a b : ℕ) → bit i (op a b) ≡ f (bit i a) (bit i b)) (i : ℕ) {x v y w : ℕ} (c : Choice x v) (d : Choice y w) where
-  first-varies : bit i v ≡ 1 → ((b : ℕ) → b < 2 → f b (bit i (d .word)) ≡ f (1 - b) (bit i (d .word)) → ⊥) → ResultVaries op x v y w i
-  unfolding flipped
-  first-varies u n =
-      record {
-        one = (c, d);
-        other = (flipped c, d);
-        differ = λ s.
-            n (bit i (c .word)) (bit-lt i (c .word))
-            (sym (bits i (c .word) (d .word)) ∙ s ∙ bits i (bitXor (c .word) v) (d .word) ∙ ap (λ (b : ℕ). f b (bit i (d .word))) (flipped-bit i (c .word) v u));
-      }
+  through-first : bit i v ≡ 1 → ((b : ℕ) → b < 2 → f b (bit i (d .word)) ≡ f (1 - b) (bit i (d .word)) → ⊥) → ResultVaries op x v y w i
+  through-first u n =
+      by-first op i c d
+      (λ s. n (bit i (c .word)) (bit-lt i (c .word))
+      (sym (bits i (c .word) (d .word)) ∙ s ∙ bits i (flipped c .word) (d .word) ∙ ap (λ (b : ℕ). f b (bit i (d .word))) (flipped-bit i c u)))
 
-  second-varies : bit i w ≡ 1 → ((b : ℕ) → b < 2 → f (bit i (c .word)) b ≡ f (bit i (c .word)) (1 - b) → ⊥) → ResultVaries op x v y w i
-  unfolding flipped
-  second-varies u n =
-      record {
-        one = (c, d);
-        other = (c, flipped d);
-        differ = λ s.
-            n (bit i (d .word)) (bit-lt i (d .word))
-            (sym (bits i (c .word) (d .word)) ∙ s ∙ bits i (c .word) (bitXor (d .word) w) ∙ ap (f (bit i (c .word))) (flipped-bit i (d .word) w u));
-      }
+  through-second : bit i w ≡ 1 → ((b : ℕ) → b < 2 → f (bit i (c .word)) b ≡ f (bit i (c .word)) (1 - b) → ⊥) → ResultVaries op x v y w i
+  through-second u n =
+      by-second op i c d
+      (λ s. n (bit i (d .word)) (bit-lt i (d .word))
+      (sym (bits i (c .word) (d .word)) ∙ s ∙ bits i (c .word) (flipped d .word) ∙ ap (f (bit i (c .word))) (flipped-bit i d u)))
 
 -- what AND's rule says of a bit that it calls undefined: each operand's is 1, or can be
 and-parts : (i x v y w : ℕ) → bit i (andV false x v y w) ≡ 1 → (max (bit i v) (bit i w) ≡ 1) × (bit i (high x v) ≡ 1) × (bit i (high y w) ≡ 1)
@@ -111,8 +116,8 @@ module _ (i : ℕ) {x v y w : ℕ} (l : i < 32) (hx : x < 2 ^ 32) (hv : v < 2 ^ 
   and-varies o =
       let t : (max (bit i v) (bit i w) ≡ 1) × (bit i (high x v) ≡ 1) × (bit i (high y w) ≡ 1) = and-parts i x v y w o in
       ⊎-elim
-      (λ u. first-varies andOf min bit-and i (itself hx hv) (greatest hy hw) u (λ b h s. omega (arith, s, t .2)))
-      (λ u. second-varies andOf min bit-and i (greatest hx hv) (itself hy hw) u (λ b h s. omega (arith, s, t .1)))
+      (λ u. through-first andOf min bit-and i (itself hx hv) (greatest hy hw) u (λ b h s. omega (arith, s, t .2)))
+      (λ u. through-second andOf min bit-and i (greatest hx hv) (itself hy hw) u (λ b h s. omega (arith, s, t .1)))
       (either i v w (t .0))
 
   or-varies : bit i (orV false x v y w) ≡ 1 → ResultVaries orOf x v y w i
@@ -120,8 +125,8 @@ module _ (i : ℕ) {x v y w : ℕ} (l : i < 32) (hx : x < 2 ^ 32) (hv : v < 2 ^ 
   or-varies o =
       let t : (max (bit i v) (bit i w) ≡ 1) × (bit i (high (inverted x) v) ≡ 1) × (bit i (high (inverted y) w) ≡ 1) = and-parts i (inverted x) v (inverted y) w o in
       ⊎-elim
-      (λ u. first-varies orOf max bit-or i (itself hx hv) (least hy hw) u (λ b h s. omega (arith, s, low-clear y w hy hw (t .2))))
-      (λ u. second-varies orOf max bit-or i (least hx hv) (itself hy hw) u (λ b h s. omega (arith, s, low-clear x v hx hv (t .1))))
+      (λ u. through-first orOf max bit-or i (itself hx hv) (least hy hw) u (λ b h s. omega (arith, s, low-clear y w hy hw (t .2))))
+      (λ u. through-second orOf max bit-or i (least hx hv) (itself hy hw) u (λ b h s. omega (arith, s, low-clear x v hx hv (t .1))))
       (either i v w (t .0))
     where
       low-clear : (z u : ℕ) → z < 2 ^ 32 → u < 2 ^ 32 → bit i (high (inverted z) u) ≡ 1 → bit i (low z u) ≡ 0
@@ -131,26 +136,25 @@ module _ (i : ℕ) {x v y w : ℕ} (l : i < 32) (hx : x < 2 ^ 32) (hv : v < 2 ^ 
   unfolding itself
   xor-varies o =
       ⊎-elim
-      (λ u. first-varies xorOf differ bit-xor i (itself hx hv) (itself hy hw) u (λ b h s. omega (arith, s, differ-sum b (bit i y), differ-sum (1 - b) (bit i y), bit-lt i y)))
-      (λ u. second-varies xorOf differ bit-xor i (itself hx hv) (itself hy hw) u (λ b h s. omega (arith, s, differ-sum (bit i x) b, differ-sum (bit i x) (1 - b), bit-lt i x)))
+      (λ u. through-first xorOf differ bit-xor i (itself hx hv) (itself hy hw) u (λ b h s. omega (arith, s, differ-sum b (bit i y), differ-sum (1 - b) (bit i y), bit-lt i y)))
+      (λ u. through-second xorOf differ bit-xor i (itself hx hv) (itself hy hw) u (λ b h s. omega (arith, s, differ-sum (bit i x) b, differ-sum (bit i x) (1 - b), bit-lt i x)))
       (either i v w (sym (bit-or i v w) ∙ o))
 
--- ---- a shift by a defined amount: the undefined bits of the first operand are flipped, and move as they are
+-- ---- a shift by a defined amount: the first operand is flipped, and its bits move as V does
 shift-varies : (f : ℕ → ℕ → ℕ) → ((y : ℕ) → Moves 32 (λ x. f x y)) → (i : ℕ) {x v y w : ℕ} → x < 2 ^ 32 → v < 2 ^ 32 → y < 2 ^ 32 → w ≡ 0 → bit i (shiftV f false x v y w) ≡ 1 → ResultVaries f x v y w i
-unfolding Moves itself flipped
+unfolding Moves itself
 shift-varies f moves i {x} {v} {y} {w} hx hv hy e o = ⊎-elim moved clear (moves y i)
   where
     here : bit i (f v y) ≡ 1
     here = ap (λ (n : ℕ). bit i (cond (eqb n 0) (f v y) allOnes)) (sym e) ∙ o
 
+    c : Choice x v
+    c = itself hx hv
+
     moved : (j : ℕ) × ((z : ℕ) → z < 2 ^ 32 → bit i (f z y) ≡ bit j z) → ResultVaries f x v y w i
     moved t =
-        record {
-          one = (itself hx hv, itself hy (omega arith));
-          other = (flipped (itself hx hv), itself hy (omega arith));
-          differ = λ s.
-              omega (arith, s, t .1 x hx, t .1 (bitXor x v) (xor-lt 32 x v hx hv), flipped-bit (t .0) x v (sym (t .1 v hv) ∙ here), bit-lt (t .0) x);
-        }
+        by-first f i c (itself hy (omega arith))
+        (λ s. omega (arith, s, t .1 x hx, t .1 (flipped c .word) (flipped c .alike .second), flipped-bit (t .0) c (sym (t .1 v hv) ∙ here), bit-lt (t .0) x))
 
     clear : ((z : ℕ) → z < 2 ^ 32 → bit i (f z y) ≡ 0) → ResultVaries f x v y w i
     clear t = absurd (omega (arith, here, t v hv))
@@ -172,11 +176,7 @@ eq-undefined same x v y w hx hv hy hw = go (eqb (apart x v y w) 0) (eqb (UifU v 
     go true true s d = inr (refl, λ u. u .1 (eqb-true (UifU v w) 0 d))
     go false _ s d = inr (refl, λ u. eqb-false (apart x v y w) 0 s (none .1 (u .0)))
 
--- its two choices: one word for both operands, and then one of them with all its undefined bits flipped
-flipped-other : (z v : ℕ) → v < 2 ^ 32 → (v ≡ 0 → ⊥) → bitXor z v ≡ z → ⊥
-flipped-other z v hv n e =
-    n (bits-equal 32 v 0 hv (omega arith) (λ i l. omega (arith, ap (bit i) (sym e) ∙ bit-xor i z v, differ-sum (bit i z) (bit i v), bit-lt i v, bit-zero i)))
-
+-- its two choices: one word for both operands, and then one of them flipped
 module _ (i : ℕ) {x v y w : ℕ} (hx : x < 2 ^ 32) (hv : v < 2 ^ 32) (hy : y < 2 ^ 32) (hw : w < 2 ^ 32) where
   -- the word: what is defined in x, and y's bits elsewhere
   joined : ℕ
@@ -208,7 +208,7 @@ module _ (i : ℕ) {x v y w : ℕ} (hx : x < 2 ^ 32) (hv : v < 2 ^ 32) (hy : y <
       }
 
   eq-varies : bit i (eqV false x v y w) ≡ 1 → ResultVaries eqOf x v y w i
-  unfolding first-joined second-joined flipped
+  unfolding first-joined second-joined
   eq-varies o =
       ⊎-elim
       (λ t. vary (t .1) (ap (bit i) (sym (t .0)) ∙ o))
@@ -221,26 +221,17 @@ module _ (i : ℕ) {x v y w : ℕ} (hx : x < 2 ^ 32) (hv : v < 2 ^ 32) (hy : y <
 
       vary : Unsettled x v y w → bit i 1 ≡ 1 → ResultVaries eqOf x v y w i
       vary t u =
+          let d : Choice y w = second-joined (t .0) in
           ⊎-elim
-          (λ (z : v ≡ 0).
-          record {
-            one = (first-joined, second-joined (t .0));
-            other = (first-joined, flipped (second-joined (t .0)));
-            differ = parted u (λ e. flipped-other joined w hw (λ m. t .1 (ap₂ bitOr z m)) (sym e));
-          })
-          (λ (p : zero < v).
-          record {
-            one = (first-joined, second-joined (t .0));
-            other = (flipped first-joined, second-joined (t .0));
-            differ = parted u (flipped-other joined v hv (λ z. omega arith));
-          })
+          (λ (z : v ≡ 0). by-second eqOf i first-joined d (parted u (λ e. flipped-other d (λ m. t .1 (ap₂ bitOr z m)) (sym e))))
+          (λ (p : zero < v). by-first eqOf i first-joined d (parted u (flipped-other first-joined (λ z. omega arith))))
           (eq-zero-or-pos v)
 
 -- ---- the theorem
 pub mov-real : MovReal
-unfolding MovReal itself flipped
+unfolding MovReal itself
 mov-real y w i hy hw = (
-  (λ o. record { one = itself hy hw; other = flipped (itself hy hw); differ = λ s. omega (arith, s, flipped-bit i y w o, bit-lt i y) }),
+  (λ o. record { one = itself hy hw; other = flipped (itself hy hw); differ = λ s. omega (arith, s, flipped-bit i (itself hy hw) o, bit-lt i y) }),
   varies-undefined (movV w) (movOf y) i (λ c. mov-sound (c .alike) .agree),
 )
 
