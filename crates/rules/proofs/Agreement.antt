@@ -31,6 +31,11 @@ pub alike-swapped : {n v x x′ : ℕ} → Alike n v x x′ → Alike n v x′ x
 unfolding Agree
 alike-swapped a = record { shadow = a .shadow; first = a .second; second = a .first; agree = λ i z. sym (a .agree i z) }
 
+-- what agrees with the same number agrees
+pub alike-joined : {n v x y z : ℕ} → Alike n v x y → Alike n v x z → Alike n v y z
+unfolding Agree
+alike-joined a b = record { shadow = a .shadow; first = a .second; second = b .second; agree = λ i z. sym (a .agree i z) ∙ b .agree i z }
+
 -- wholly undefined numbers agree
 pub alike-undefined : (n : ℕ) {x x′ : ℕ} → x < 2 ^ n → x′ < 2 ^ n → Alike n (2 ^ n - 1) x x′
 alike-undefined n hx hx′ = alike-below n (ones-lt n) hx hx′ (λ i l z. absurd (omega (arith, bit-ones n i l)))
@@ -69,7 +74,7 @@ alike-more {n} {v} u h a =
       agree = λ i z. a .agree i (omega (arith, sym (bit-or i v u) ∙ z));
     }
 
--- so a sound rule stays sound if it calls more undefined: soundness lets false alarms through, and what keeps them out is 02, L14 (proofs/Alarms.antt)
+-- so a sound rule stays sound if it calls more undefined: soundness does not shut false alarms out. In the operations of 02, L14, `real` does (proofs/Alarms.antt).
 pub sound-more : (f : ℕ → ℕ → ℕ) (rule more : Rule) → ((same : Bool) (x v y w : ℕ) → more same x v y w < 2 ^ 32) → Sound f rule → Sound f (λ same x v y w. UifU (rule same x v y w) (more same x v y w))
 unfolding Sound
 sound-more f rule more range sound same x v x′ y w y′ one a b = alike-more (more same x v y w) (range same x v y w) (sound same x v x′ y w y′ one a b)

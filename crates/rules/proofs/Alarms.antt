@@ -10,19 +10,19 @@ use lib.Dec.{eqb}
 use lib.Bits.{bitAnd, bitOr, bitXor, differ, and-lt, or-lt, xor-lt}
 use Rattle.rules.specs.Word.{bit, inverted, oneIf, allOnes}
 use Rattle.rules.specs.Actions.{movOf, andOf, orOf, xorOf, shlOf, shrOf, sarOf, eqOf}
-use Rattle.rules.specs.Shadows.{UifU, low, high, movV, andV, orV, xorV, shiftV, apart, eqV}
+use Rattle.rules.specs.Shadows.{Rule, UifU, low, high, movV, andV, orV, xorV, shiftV, apart, eqV, ltuV}
 use Rattle.rules.specs.Operations.{actionOf, shadowOf}
 use Rattle.rules.specs.Agreement.{Agree, Alike, Sound}
-use Rattle.rules.specs.Alarms.{Choice, Varies, ResultVaries, Claimed, and, or, xor, eq, shl, shr, sar, claimed, Covered, Real, MovReal}
+use Rattle.rules.specs.Alarms.{Choice, Varies, ResultVaries, Exact, Claimed, and, or, xor, eq, shl, shr, sar, claimed, AnyWord, Covered, Real, MovReal}
 use Rattle.rules.proofs.Bits.{lt-or-ge, bit-lt, bit-zero, bit-high, zero-or-one, bit-and, bit-or, bit-xor, differ-sum, bits-equal, bit-not}
 use Rattle.rules.proofs.Agreement.{alike-below, alike-self, Moves}
 use Rattle.rules.proofs.Bitwise.{and-rule}
-use Rattle.rules.proofs.Sum.{bit-low}
+use Rattle.rules.proofs.Sum.{bit-low, alike-low, alike-high}
 use Rattle.rules.proofs.Shift.{shl-moves, shr-moves, sar-moves}
-use Rattle.rules.proofs.Compare.{apart-none}
+use Rattle.rules.proofs.Compare.{test-sound, apart-none}
 use Rattle.rules.proofs.Sound.{mov-sound, sound}
 
--- ---- the shared fact: a bit that varies is not one in which every choice agrees with the data
+-- ---- the shared fact: a bit in which every choice agrees with the data does not vary
 pub varies-undefined : {C : Type 0} {result : C → ℕ} (u z i : ℕ) → ((c : C) → Agree u z (result c)) → Varies C result i → bit i u ≡ 1
 unfolding Agree
 varies-undefined u z i agree t =
@@ -35,17 +35,13 @@ varies-undefined u z i agree t =
 itself : {x v : ℕ} → x < 2 ^ 32 → v < 2 ^ 32 → Choice x v
 itself {x} hx hv = record { word = x; alike = alike-self hv hx }
 
--- every undefined bit 0, and every one 1
+-- every undefined bit 0
 least : {x v : ℕ} → x < 2 ^ 32 → v < 2 ^ 32 → Choice x v
-least {x} {v} hx hv =
-    record {
-      word = low x v;
-      alike = alike-below 32 hv hx (and-lt 32 x (inverted v) hx (omega arith)) (λ i l z. omega (arith, bit-low i x v l hv, bit-lt i x));
-    }
+least {x} {v} hx hv = record { word = low x v; alike = alike-low hv hx }
 
+-- every undefined bit 1
 greatest : {x v : ℕ} → x < 2 ^ 32 → v < 2 ^ 32 → Choice x v
-greatest {x} {v} hx hv =
-    record { word = high x v; alike = alike-below 32 hv hx (or-lt 32 x v hx hv) (λ i l z. omega (arith, bit-or i x v)) }
+greatest {x} {v} hx hv = record { word = high x v; alike = alike-high hv hx }
 
 -- another choice: every undefined bit is what it is not in this one
 flipped : {x v : ℕ} → Choice x v → Choice x v
@@ -100,7 +96,7 @@ module _ (op f : ℕ → ℕ → ℕ) (bits : (i a b : ℕ) → bit i (op a b) �
       (λ s. n (bit i (d .word)) (bit-lt i (d .word))
       (sym (bits i (c .word) (d .word)) ∙ s ∙ bits i (c .word) (flipped d .word) ∙ ap (f (bit i (c .word))) (flipped-bit i d u)))
 
--- what AND's rule says of a bit that it calls undefined: each operand's is 1, or can be
+-- what AND's rule says of a bit that it calls undefined: it is undefined in one of the operands, and each operand's is 1 or can be
 and-parts : (i x v y w : ℕ) → bit i (andV false x v y w) ≡ 1 → (max (bit i v) (bit i w) ≡ 1) × (bit i (high x v) ≡ 1) × (bit i (high y w) ≡ 1)
 and-parts i x v y w o = parts (max (bit i v) (bit i w)) (bit i (high x v)) (bit i (high y w)) (omega (arith, bit-lt i v, bit-lt i w)) (bit-lt i (high x v)) (bit-lt i (high y w)) e
   where
@@ -110,7 +106,7 @@ and-parts i x v y w o = parts (max (bit i v) (bit i w)) (bit i (high x v)) (bit 
     e : min (min (max (bit i v) (bit i w)) (bit i (high x v))) (bit i (high y w)) ≡ 1
     e = ap₂ (λ (q r : ℕ). min (min (max (bit i v) (bit i w)) q) r) (bit-or i x v) (bit-or i y w) ∙ sym (and-rule i x v y w false) ∙ o
 
-module _ (i : ℕ) {x v y w : ℕ} (l : i < 32) (hx : x < 2 ^ 32) (hv : v < 2 ^ 32) (hy : y < 2 ^ 32) (hw : w < 2 ^ 32) where
+module _ (i : ℕ) {x v y w : ℕ} (hx : x < 2 ^ 32) (hv : v < 2 ^ 32) (hy : y < 2 ^ 32) (hw : w < 2 ^ 32) where
   and-varies : bit i (andV false x v y w) ≡ 1 → ResultVaries andOf x v y w i
   unfolding greatest
   and-varies o =
@@ -130,7 +126,9 @@ module _ (i : ℕ) {x v y w : ℕ} (l : i < 32) (hx : x < 2 ^ 32) (hv : v < 2 ^ 
       (either i v w (t .0))
     where
       low-clear : (z u : ℕ) → z < 2 ^ 32 → u < 2 ^ 32 → bit i (high (inverted z) u) ≡ 1 → bit i (low z u) ≡ 0
-      low-clear z u hz hu e = omega (arith, e, bit-or i (inverted z) u, bit-not 32 i z l hz, bit-low i z u l hu, bit-lt i z)
+      low-clear z u hz hu e =
+          let l : i < 32 = set-below i (or-lt 32 (inverted z) u (omega arith) hu) e in
+          omega (arith, e, bit-or i (inverted z) u, bit-not 32 i z l hz, bit-low i z u l hu, bit-lt i z)
 
   xor-varies : bit i (xorV false x v y w) ≡ 1 → ResultVaries xorOf x v y w i
   unfolding itself
@@ -235,39 +233,59 @@ mov-real y w i hy hw = (
   varies-undefined (movV w) (movOf y) i (λ c. mov-sound (c .alike) .agree),
 )
 
--- the rule's V word and the result are words, and every choice agrees with the result where it is defined
-sound-choices : (o : Claimed) {x v y w : ℕ} (c : Choice x v) (d : Choice y w) → Alike 32 (shadowOf (claimed o) false x v y w) (actionOf (claimed o) x y) (actionOf (claimed o) (c .word) (d .word))
-unfolding Sound
-sound-choices o {x} {v} {y} {w} c d = sound (claimed o) false x v (c .word) y w (d .word) (λ e. absurd (true≢false (sym e))) (c .alike) (d .alike)
-
-undefined-varies : (o : Claimed) (i : ℕ) {x v y w : ℕ} → i < 32 → x < 2 ^ 32 → v < 2 ^ 32 → y < 2 ^ 32 → w < 2 ^ 32 → Covered o w → bit i (shadowOf (claimed o) false x v y w) ≡ 1 → ResultVaries (actionOf (claimed o)) x v y w i
+undefined-varies : (o : Claimed) (i : ℕ) {x v y w : ℕ} → x < 2 ^ 32 → v < 2 ^ 32 → y < 2 ^ 32 → w < 2 ^ 32 → Covered o w → bit i (shadowOf (claimed o) false x v y w) ≡ 1 → ResultVaries (actionOf (claimed o)) x v y w i
 unfolding Covered claimed shadowOf actionOf
-undefined-varies and i l hx hv hy hw k = and-varies i l hx hv hy hw
-undefined-varies or i l hx hv hy hw k = or-varies i l hx hv hy hw
-undefined-varies xor i l hx hv hy hw k = xor-varies i l hx hv hy hw
-undefined-varies eq i l hx hv hy hw k = eq-varies i hx hv hy hw
-undefined-varies shl i l hx hv hy hw k = shift-varies shlOf shl-moves i hx hv hy k
-undefined-varies shr i l hx hv hy hw k = shift-varies shrOf shr-moves i hx hv hy k
-undefined-varies sar i l hx hv hy hw k = shift-varies sarOf sar-moves i hx hv hy k
+undefined-varies and i hx hv hy hw k = and-varies i hx hv hy hw
+undefined-varies or i hx hv hy hw k = or-varies i hx hv hy hw
+undefined-varies xor i hx hv hy hw k = xor-varies i hx hv hy hw
+undefined-varies eq i hx hv hy hw k = eq-varies i hx hv hy hw
+undefined-varies shl i hx hv hy hw k = shift-varies shlOf shl-moves i hx hv hy k
+undefined-varies shr i hx hv hy hw k = shift-varies shrOf shr-moves i hx hv hy k
+undefined-varies sar i hx hv hy hw k = shift-varies sarOf sar-moves i hx hv hy k
 
 pub real : (o : Claimed) → Real o
-unfolding Real
+unfolding Real Exact Sound
 real o x v y w i hx hv hy hw k = (
-  (λ e. undefined-varies o i (set-below i (sound-choices o (itself hx hv) (itself hy hw) .shadow) e) hx hv hy hw k e),
-  varies-undefined (shadowOf (claimed o) false x v y w) (actionOf (claimed o) x y) i (λ c. sound-choices o (c .0) (c .1) .agree),
+  undefined-varies o i hx hv hy hw k,
+  varies-undefined (shadowOf (claimed o) false x v y w) (actionOf (claimed o) x y) i
+      (λ c. sound (claimed o) false x v (c .0 .word) y w (c .1 .word) (λ e. absurd (true≢false (sym e))) (c .0 .alike) (c .1 .alike) .agree),
 )
 
--- ---- that it says something, on pinned cases
--- EQ (02, L4): where nothing but an undefined bit can tell the words apart the answer varies; where bit 0 does, it does not
+-- ---- that it says something
+-- the action alone fixes the V bits: there are no two exact rules
+pub exact-only : (f : ℕ → ℕ → ℕ) (rule other : Rule) (W : ℕ → Type 0) → Exact f rule W → Exact f other W
+    → (x v y w i : ℕ) → x < 2 ^ 32 → v < 2 ^ 32 → y < 2 ^ 32 → w < 2 ^ 32 → W w → bit i (rule false x v y w) ≡ bit i (other false x v y w)
+unfolding Exact
+exact-only f rule other W p q x v y w i hx hv hy hw k =
+    both-set (rule false x v y w) (other false x v y w)
+    (λ o. q x v y w i hx hv hy hw k .1 (p x v y w i hx hv hy hw k .0 o))
+    (λ o. p x v y w i hx hv hy hw k .1 (q x v y w i hx hv hy hw k .0 o))
+  where
+    both-set : (a b : ℕ) → (bit i a ≡ 1 → bit i b ≡ 1) → (bit i b ≡ 1 → bit i a ≡ 1) → bit i a ≡ bit i b
+    both-set a b there back =
+        ⊎-elim
+        (λ (z : bit i a ≡ 0). ⊎-elim (λ (u : bit i b ≡ 0). z ∙ sym u) (λ (o : bit i b ≡ 1). back o ∙ sym o) (zero-or-one i b))
+        (λ (o : bit i a ≡ 1). o ∙ sym (there o))
+        (zero-or-one i a)
+
+-- pinned cases of EQ (02, L4): where nothing but an undefined bit can tell the words apart the answer varies; where bit 0 does, it does not
 pub unsettled-varies : ResultVaries eqOf 0 0x80 0 0 0
-unfolding Real Covered claimed shadowOf actionOf bit
+unfolding Real Exact Covered claimed shadowOf actionOf bit
 unsettled-varies = real eq 0 0x80 0 0 0 (omega arith) (omega arith) (omega arith) (omega arith) tt .0 refl
 
 pub settled-stays : ResultVaries eqOf 1 0x80 0 0 0 → ⊥
-unfolding Real Covered claimed shadowOf actionOf bit
+unfolding Real Exact Covered claimed shadowOf actionOf bit
 settled-stays t = omega (arith, real eq 1 0x80 0 0 0 (omega arith) (omega arith) (omega arith) (omega arith) tt .1 t)
 
--- AND (01): a defined 0 of the mask keeps bit 1 from varying
-pub masked-stays : ResultVaries andOf 0xFFFF_FFFF allOnes 1 0 1 → ⊥
-unfolding Real Covered claimed shadowOf actionOf bit
-masked-stays t = omega (arith, real and 0xFFFF_FFFF allOnes 1 0 1 (omega arith) (omega arith) (omega arith) (omega arith) tt .1 t)
+-- of SHL (01): nothing moves into the places that are left free
+pub vacated-stays : ResultVaries shlOf 0x81 0x81 4 0 0 → ⊥
+unfolding Real Exact Covered claimed shadowOf actionOf bit
+vacated-stays t = omega (arith, real shl 0x81 0x81 4 0 0 (omega arith) (omega arith) (omega arith) (omega arith) refl .1 t)
+
+-- soundness alone would not do: 01's own rule for EQ, which LTU keeps, is sound for it, and not exact
+pub first-rule-sound : Sound eqOf ltuV
+first-rule-sound = test-sound eqb
+
+pub first-rule-inexact : Exact eqOf ltuV AnyWord → ⊥
+unfolding Exact bit
+first-rule-inexact e = settled-stays (e 1 0x80 0 0 0 (omega arith) (omega arith) (omega arith) (omega arith) tt .0 refl)

@@ -12,7 +12,7 @@ use Rattle.rules.specs.Actions.{addOf, subOf}
 use Rattle.rules.specs.Shadows.{UifU, Left, leftV, low, high, addV, subV}
 use Rattle.rules.specs.Agreement.{Agree, Alike, Sound, Within}
 use Rattle.rules.proofs.Bits.{bit-lt, zero-or-one, bit-and, bit-or, bit-xor, differ-self, differ-none, bit-mod, low-suc, bits-equal, bit-not}
-use Rattle.rules.proofs.Agreement.{alike-below, alike-self, alike-swapped, alike-inverted}
+use Rattle.rules.proofs.Agreement.{alike-below, alike-self, alike-swapped, alike-joined, alike-inverted}
 use Rattle.rules.proofs.Congruence.{wrapped-lt}
 use Rattle.rules.proofs.Carry.{Carries, add-carries, sub-carries, carries-alike, NoneMore, within-none}
 
@@ -75,10 +75,14 @@ below-high {v} {x} {x′} a =
     }
 
 -- both are choices of its undefined bits
+pub alike-low : {v x : ℕ} → v < 2 ^ 32 → x < 2 ^ 32 → Alike 32 v x (low x v)
+alike-low {v} {x} hv hx = alike-below 32 hv hx (and-lt 32 x (inverted v) hx (omega arith)) (λ i l z. omega (arith, bit-low i x v l hv, bit-lt i x))
+
+pub alike-high : {v x : ℕ} → v < 2 ^ 32 → x < 2 ^ 32 → Alike 32 v x (high x v)
+alike-high {v} {x} hv hx = alike-below 32 hv hx (or-lt 32 x v hx hv) (λ i l z. omega (arith, bit-or i x v))
+
 alike-ends : {v x : ℕ} → v < 2 ^ 32 → x < 2 ^ 32 → Alike 32 v (low x v) (high x v)
-alike-ends {v} {x} hv hx =
-    alike-below 32 hv (and-lt 32 x (inverted v) hx (omega arith)) (or-lt 32 x v hx hv)
-    (λ i l z. omega (arith, bit-low i x v l hv, bit-or i x v, bit-lt i x))
+alike-ends hv hx = alike-joined (alike-low hv hx) (alike-high hv hx)
 
 -- words that agree in the defined bits have the same ends
 same-ends : {v x x′ : ℕ} → Alike 32 v x x′ → (low x v ≡ low x′ v) × (high x v ≡ high x′ v)

@@ -5,7 +5,7 @@ use mathlib.Core.Logic.{_↔_}
 use mathlib.Core.Bool.{false}
 use Rattle.rules.specs.Word.{bit}
 use Rattle.rules.specs.Actions.{movOf}
-use Rattle.rules.specs.Shadows.{movV}
+use Rattle.rules.specs.Shadows.{Rule, movV}
 use Rattle.rules.specs.Operations.{actionOf, shadowOf}
 use Rattle.rules.specs.Agreement.{Alike}
 use Rattle.rules.specs.declared.Operation.{Operation}
@@ -22,9 +22,21 @@ pub record Varies (C : Type 0) (result : C → ℕ) (i : ℕ) : Type 0 where
   pub other : C
   pub differ : bit i (result one) ≡ bit i (result other) → ⊥
 
--- so of an operation on two operands, whose undefined bits are chosen each for itself
+-- the same of an operation on two operands, whose undefined bits are chosen independently
 abbrev pub ResultVaries : (ℕ → ℕ → ℕ) → (x v y w i : ℕ) → Type 0
 ResultVaries f x v y w i = Varies (Choice x v × Choice y w) (λ c. f (c .0 .word) (c .1 .word)) i
+
+-- A rule is exact for an action: bit i of its V word is 1 exactly if bit i of the result varies. `false`: a and B are two different registers, or B is a literal, which has w 0.
+-- W says which V words of B it is asked of.
+unfoldable pub Exact : (ℕ → ℕ → ℕ) → Rule → (ℕ → Type 0) → Type 0
+Exact f rule W =
+    (x v y w i : ℕ)
+    → x < 2 ^ 32
+    → v < 2 ^ 32
+    → y < 2 ^ 32
+    → w < 2 ^ 32
+    → W w
+    → (bit i (rule false x v y w) ≡ 1) ↔ ResultVaries f x v y w i
 
 -- the operations of the claim beside MOV: ADD, SUB, MUL and LTU are not among them
 pub data Claimed : Type 0 where
@@ -36,7 +48,7 @@ pub data Claimed : Type 0 where
   shr : Claimed
   sar : Claimed
 
--- each of them as an operation on two operands
+-- which operation each is
 unfoldable pub claimed : Claimed → Operation
 claimed and = And
 claimed or = Or
@@ -46,28 +58,27 @@ claimed shl = Shl
 claimed shr = Shr
 claimed sar = Sar
 
--- the V words of B that the claim is about: any, but for a shift 0 alone
+-- the V words of B that the claim is about: any; for a shift 0 alone
+abbrev pub AnyWord : ℕ → Type 0
+AnyWord w = Unit {0}
+
+abbrev pub Defined : ℕ → Type 0
+Defined w = w ≡ 0
+
 unfoldable pub Covered : Claimed → ℕ → Type 0
-Covered and w = Unit {0}
-Covered or w = Unit {0}
-Covered xor w = Unit {0}
-Covered eq w = Unit {0}
-Covered shl w = w ≡ 0
-Covered shr w = w ≡ 0
-Covered sar w = w ≡ 0
+Covered and = AnyWord
+Covered or = AnyWord
+Covered xor = AnyWord
+Covered eq = AnyWord
+Covered shl = Defined
+Covered shr = Defined
+Covered sar = Defined
 
--- a and B are two different registers, or a register and a literal, which has w 0
+-- the claim, of one operation
 unfoldable pub Real : Claimed → Type 0
-Real o =
-    (x v y w i : ℕ)
-    → x < 2 ^ 32
-    → v < 2 ^ 32
-    → y < 2 ^ 32
-    → w < 2 ^ 32
-    → Covered o w
-    → (bit i (shadowOf (claimed o) false x v y w) ≡ 1) ↔ ResultVaries (actionOf (claimed o)) x v y w i
+Real o = Exact (actionOf (claimed o)) (shadowOf (claimed o)) (Covered o)
 
--- MOV has one operand, B: a register or a literal
+-- and of MOV, which has one operand, B: a register or a literal
 unfoldable pub MovReal : Type 0
 MovReal =
     (y w i : ℕ)
