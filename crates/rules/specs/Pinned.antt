@@ -74,6 +74,12 @@ pinned =
     ∷ does Shr false 0x8000_0000 0x8000_0000 0xFFFF_FFFF 0 1 1
     ∷ does Sar false 0x4000_0000 0x4000_0000 30 0 1 1
     ∷ does Shl false 1 0 0 0x8000_0000 1 allOnes
+    ∷ does And true 0xF0F0 0xFF00 0xF0F0 0xFF00 0xF0F0 0xFF00
+    ∷ does Or true 0xF0F0 0xFF00 0xF0F0 0xFF00 0xF0F0 0xFF00
+    ∷ does Mul true 6 4 6 4 0x24 0xFFFF_FFFC
+    ∷ does Shl true 1 1 1 1 2 allOnes
+    ∷ does Shr true 0x22 0 0x22 0 8 0
+    ∷ does Sar true 0x8000_0001 0 0x8000_0001 0 0xC000_0000 0
     ∷ does Eq false 0 0 0x8000_0000 0 0 0
     ∷ does Eq false 7 0 7 0 1 0
     ∷ does Eq false 1 0 1 0x8000_0000 1 1

@@ -83,7 +83,7 @@ const SUBTRACTED: [Case; 14] = [
     Case(Operation::Sub, true, 5, 0x10, 5, 0x10),
 ];
 
-const OTHERS: [Case; 8] = [
+const OTHERS: [Case; 14] = [
     Case(Operation::Mul, false, 3, 0x8000_0000, 5, 0),
     Case(Operation::Mul, false, 0, 0, 5, 1),
     Case(Operation::Or, false, 0, 0xffff_ffff, 1, 0),
@@ -99,6 +99,12 @@ const OTHERS: [Case; 8] = [
     ),
     Case(Operation::Sar, false, 0x4000_0000, 0x4000_0000, 30, 0),
     Case(Operation::Shl, false, 1, 0, 0, 0x8000_0000),
+    Case(Operation::And, true, 0xf0f0, 0xff00, 0xf0f0, 0xff00),
+    Case(Operation::Or, true, 0xf0f0, 0xff00, 0xf0f0, 0xff00),
+    Case(Operation::Mul, true, 6, 4, 6, 4),
+    Case(Operation::Shl, true, 1, 1, 1, 1),
+    Case(Operation::Shr, true, 0x22, 0, 0x22, 0),
+    Case(Operation::Sar, true, 0x8000_0001, 0, 0x8000_0001, 0),
 ];
 
 const COMPARED: [Case; 21] = [
@@ -132,9 +138,9 @@ const SUBTRACTED_FROM: usize = 27;
 
 const OTHERS_FROM: usize = 41;
 
-const COMPARED_FROM: usize = 49;
+const COMPARED_FROM: usize = 55;
 
-const ROWS: usize = 70;
+const ROWS: usize = 76;
 
 fn operate(c: Case) {
     let op = c.0;
