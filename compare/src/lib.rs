@@ -7,6 +7,7 @@ pub mod checker;
 pub mod claim;
 pub mod clean;
 pub mod compare;
+pub mod counted;
 pub mod coverage;
 pub mod damage;
 pub mod edges;

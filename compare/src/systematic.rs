@@ -4,47 +4,11 @@ mod images;
 mod runs;
 
 use crate::cases::{self, Budget, Call, Case};
+use crate::counted::{Choices, Family};
 use crate::images::{op, Image, Operand, Region, Row, FILLED, UNDEFINED};
 use crate::prng::Prng;
 
-/// A number taken apart into one choice after another. Every maker asks for the same choices in
-/// the same order, so the product of their counts is the number of its cases.
-pub struct Choices {
-    rest: u64,
-    product: u64,
-}
-
-impl Choices {
-    pub fn of(number: u64) -> Choices {
-        Choices { rest: number, product: 1 }
-    }
-
-    fn below(&mut self, count: usize) -> usize {
-        let choice = self.rest % count as u64;
-        self.rest /= count as u64;
-        self.product *= count as u64;
-        choice as usize
-    }
-
-    fn pick<T: Copy>(&mut self, pool: &[T]) -> T {
-        pool[self.below(pool.len())]
-    }
-}
-
-pub struct Family {
-    pub name: &'static str,
-    pub make: fn(&mut Choices, &mut Prng) -> Case,
-}
-
-impl Family {
-    pub fn count(&self) -> u64 {
-        let mut choices = Choices::of(0);
-        (self.make)(&mut choices, &mut Prng::of_case(0, 0, 0));
-        choices.product
-    }
-}
-
-pub const FAMILIES: [Family; 18] = [
+pub const FAMILIES: [Family<Case>; 18] = [
     Family { name: "every rule, edge words", make: runs::arithmetic },
     Family { name: "every carry in three bits", make: runs::carry },
     Family { name: "every access, edge address", make: runs::access },
