@@ -12,6 +12,8 @@ use crate::systematic::FAMILIES;
 use crate::types::State;
 use sorts::Sorts;
 
+pub use sorts::MET_IN;
+
 /// Accepted calls are counted as number 0.
 const NUMBERS: usize = 12;
 const REASONS: usize = 5;
@@ -37,7 +39,7 @@ pub struct Coverage {
     sorts: Sorts,
 }
 
-fn add(to: &mut [u64], from: &[u64]) {
+pub fn add(to: &mut [u64], from: &[u64]) {
     for (to, from) in to.iter_mut().zip(from) {
         *to += from;
     }

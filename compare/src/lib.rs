@@ -1,5 +1,6 @@
 //! The compiled checker put beside an independent interpreter of document 01.
 
+pub mod alarms;
 pub mod bare;
 pub mod calls;
 pub mod cases;

@@ -1,5 +1,6 @@
 //! Whether the comparison finds a planted fault: each faulty interpreter against the checker.
 
+use crate::alarms::teeth::{self as alarms, Found};
 use crate::checker;
 use crate::claim::{self, Clause, Tally, CLAUSES};
 use crate::compare::{self, Mismatch};
@@ -19,6 +20,8 @@ pub struct Bite {
     found: Option<Mismatch>,
     /// Claim cases until the fault, put in the checker's place, breaks the claim, and in what.
     claim_broken: Option<(u64, Clause)>,
+    /// How the fault, put in the checker's place, is wrong about alarms.
+    alarms: Found,
 }
 
 impl Bite {
@@ -34,7 +37,8 @@ impl Bite {
             let failure = claim::try_case(faulty, plan.seed, k, &mut Tally::default()).err()?;
             Some((k + 1, failure.clause()?))
         });
-        Bite { name, sentence, found, claim_broken }
+        let alarms = Found::of(faulty, plan.seed);
+        Bite { name, sentence, found, claim_broken, alarms }
     }
 
     pub fn is_found(&self) -> bool {
@@ -49,11 +53,13 @@ impl Bite {
     fn row(&self) -> String {
         let claim = self.claim_broken.map_or("-".to_string(), |(cases, _)| cases.to_string());
         let clause = self.breaks().map_or("", Clause::name);
+        let alarms = self.alarms.words();
         let (cases, kind, difference) = match &self.found {
             Some(found) => ((found.case + 1).to_string(), found.kind, found.difference.as_str()),
             None => ("-".to_string(), "NOT FOUND", self.sentence),
         };
-        format!("{:<36}{cases:>7}{claim:>7}  {clause:<19}{kind:<28}{difference}\n", self.name)
+        let counts = format!("{:<36}{cases:>7}{claim:>7}", self.name);
+        format!("{counts}  {clause:<19}{alarms:<12}{kind:<28}{difference}\n")
     }
 }
 
@@ -66,9 +72,9 @@ pub fn bites(plan: &Plan, cases: u64, name: Option<&str>) -> Vec<Bite> {
 }
 
 pub fn table(bites: &[Bite]) -> String {
-    let [fault, clause, kind] = ["fault", "broken first", "found by"];
-    let head =
-        format!("{fault:<36}{:>7}{:>7}  {clause:<19}{kind:<28}difference\n", "cases", "claim");
+    let [fault, clause, alarms, kind] = ["fault", "broken first", "alarms", "found by"];
+    let counts = format!("{fault:<36}{:>7}{:>7}", "cases", "claim");
+    let head = format!("{counts}  {clause:<19}{alarms:<12}{kind:<28}difference\n");
     bites.iter().fold(head, |table, bite| table + &bite.row())
 }
 
@@ -83,11 +89,26 @@ pub fn clause_table(bites: &[Bite]) -> String {
 }
 
 /// The clauses that no fault breaks first.
-pub fn unbroken(bites: &[Bite]) -> Vec<Clause> {
-    CLAUSES.into_iter().filter(|&clause| breaking(bites, clause) == 0).collect()
+pub fn unbroken(bites: &[Bite]) -> Vec<String> {
+    let unbroken = CLAUSES.into_iter().filter(|&clause| breaking(bites, clause) == 0);
+    unbroken.map(|clause| clause.name().to_string()).collect()
 }
 
 /// How many faults break some clause of the claim; a panic is none.
 pub fn breaking_any(bites: &[Bite]) -> usize {
     CLAUSES.into_iter().map(|clause| breaking(bites, clause)).sum()
+}
+
+/// How many faults are wrong about alarms in some op and way.
+pub fn alarming_wrongly(bites: &[Bite]) -> usize {
+    bites.iter().filter(|bite| bite.alarms.is_any()).count()
+}
+
+pub fn alarm_table(bites: &[Bite]) -> String {
+    alarms::table(bites.iter().map(|bite| &bite.alarms))
+}
+
+/// The ops and ways of being wrong about alarms in which no fault is found.
+pub fn unfound_alarms(bites: &[Bite]) -> Vec<String> {
+    alarms::unfound(bites.iter().map(|bite| &bite.alarms))
 }

@@ -1,5 +1,6 @@
 //! The driver itself: its images are those of document 01, its cases repeat, its words are plain.
 
+use compare::alarms::{self, Cases, Stepper, Tally};
 use compare::calls;
 use compare::cases::Call;
 use compare::compare::compare;
@@ -64,4 +65,50 @@ fn a_difference_is_told_in_words() {
     let words = found.expect("every run differs").difference;
     assert!(words.starts_with("register 3's V: interpreter 0x"), "{words}");
     assert!(words.contains(", forgetful 0x"), "{words}");
+}
+
+#[test]
+fn an_alarm_case_is_the_same_each_time() {
+    let cases = Cases::new(7);
+    for number in (0..cases.counted() + 2000).step_by(997) {
+        let (left, right) = (cases.case(number), cases.case(number));
+        assert!(left.0 == right.0 && left.1.image() == right.1.image(), "case {number}");
+        assert!(left.1.state == right.1.state, "case {number}");
+        assert!(left.1.fillings() == right.1.fillings(), "case {number}");
+    }
+}
+
+#[test]
+fn a_wrong_alarm_is_told_in_words() {
+    let cases = Cases::new(1);
+    let first = |fault| {
+        let mut stepper = Stepper::new(faults::planted(fault).expect("a planted fault"));
+        let mut failure =
+            |k| alarms::try_case(&mut stepper, &cases, k, &mut Tally::default()).err();
+        (0..2000).find_map(&mut failure).expect("it is found").to_string()
+    };
+    let words = first("xor_all_ones");
+    assert!(words.starts_with("alarm: --seed 1 --alarm "), "{words}");
+    assert!(words.contains("  XOR, x 0x"), "{words}");
+    assert!(words.contains(": called undefined 0xffffffff, varies 0x"), "{words}");
+    assert!(words.ends_with(": too much"), "{words}");
+    assert!(first("add_no_carry").ends_with(": too little"));
+    assert!(first("refusal_11_outputs_at_places").ends_with(": no run of one step"));
+}
+
+#[test]
+fn alarms_that_were_never_met_are_missed() {
+    let missing = Tally::default().missing();
+    assert!(missing.contains(&"EQ, counted: settled".to_string()));
+    assert!(missing.contains(&"SAR, drawn: an undefined top bit copied".to_string()));
+    assert!(!missing.contains(&"MOV, drawn: d is a".to_string()));
+}
+
+#[test]
+fn ways_to_be_wrong_that_no_fault_has_are_missed() {
+    let unfound = alarms::teeth::unfound(std::iter::empty());
+    assert_eq!(unfound.len(), 8 * 2 + 2);
+    assert!(unfound.contains(&"MOV, too much".to_string()));
+    assert!(unfound.contains(&"SUB, too little".to_string()));
+    assert!(!unfound.contains(&"SUB, too much".to_string()));
 }

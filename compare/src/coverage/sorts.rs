@@ -44,7 +44,7 @@ const EQUALITIES: [&str; 7] = [
     "settled with bits of B undefined",
     "settled with bits of both undefined",
 ];
-const MET_IN: [&str; 2] = ["counted", "drawn"];
+pub const MET_IN: [&str; 2] = ["counted", "drawn"];
 
 /// The operands of a step, data and V, whether they are one register, and the V that it made.
 struct Step {

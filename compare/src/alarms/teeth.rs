@@ -1,0 +1,90 @@
+//! Whether the check finds a planted fault: each faulty interpreter in the checker's place.
+
+use super::layout::{cell, name_of, Layout};
+use super::{place_of, Cases, Seen, Stepper, Wrong, OPS, WRONGS};
+use crate::types::Engine;
+
+/// Cases that each fault is tried on, those with more undefined bits left out.
+const CASES: u64 = 2000;
+const MOST_UNDEFINED: u32 = 4;
+
+/// In which ops the check finds a fault, and how it is wrong there.
+#[derive(Default)]
+pub struct Found([[bool; WRONGS.len()]; OPS.len()]);
+
+impl Found {
+    pub fn of(faulty: &Engine, seed: u64) -> Found {
+        let cases = Cases::new(seed);
+        let mut stepper = Stepper::new(faulty);
+        let mut found = Found::default();
+        let cases = (0..CASES).map(|k| cases.case(k).1);
+        for case in cases.filter(|case| case.operands.undefined() <= MOST_UNDEFINED) {
+            if let Ok(seen) = stepper.look(&case) {
+                found.add(case.row.op, &seen);
+            }
+        }
+        found
+    }
+
+    fn add(&mut self, op: u8, seen: &Seen) {
+        for (way, wrong) in self.0[place_of(op)].iter_mut().zip(WRONGS) {
+            *way |= wrong.is_barred(op) && wrong.bits(seen) != 0;
+        }
+    }
+
+    /// In any op.
+    fn is_so(&self, wrong: usize) -> bool {
+        self.0.iter().any(|ways| ways[wrong])
+    }
+
+    /// The ways in which it is wrong.
+    pub fn words(&self) -> &'static str {
+        match [self.is_so(0), self.is_so(1)] {
+            [true, true] => "both",
+            [true, false] => Wrong::TooMuch.name(),
+            [false, true] => Wrong::TooLittle.name(),
+            [false, false] => "",
+        }
+    }
+
+    pub fn is_any(&self) -> bool {
+        self.0.iter().flatten().any(|&way| way)
+    }
+}
+
+type Counts = [[usize; WRONGS.len()]; OPS.len()];
+
+/// How many are found, by op and way.
+fn counts<'a>(found: impl Iterator<Item = &'a Found>) -> Counts {
+    let mut counts = Counts::default();
+    for found in found {
+        for (count, way) in counts.iter_mut().flatten().zip(found.0.iter().flatten()) {
+            *count += usize::from(*way);
+        }
+    }
+    counts
+}
+
+/// A row for each op, and one for all.
+pub fn table<'a>(found: impl Iterator<Item = &'a Found> + Clone) -> String {
+    let layout = Layout(8, 12);
+    let row = |(&op, counts): (&u8, &[usize; WRONGS.len()])| {
+        let cells = WRONGS.iter().zip(counts);
+        layout.line(name_of(op), cells.map(|(wrong, count)| cell(wrong.is_barred(op), count)))
+    };
+    let rows: String = OPS.iter().zip(&counts(found.clone())).map(row).collect();
+    let of_any = [0, 1].map(|wrong| found.clone().filter(|found| found.is_so(wrong)).count());
+    layout.line("", WRONGS.map(Wrong::name)) + &rows + &layout.line("any op", of_any)
+}
+
+/// The ops and ways in which none is found and one should be.
+pub fn unfound<'a>(found: impl Iterator<Item = &'a Found>) -> Vec<String> {
+    let mut unfound = Vec::new();
+    for (&op, counts) in OPS.iter().zip(&counts(found)) {
+        let none =
+            WRONGS.iter().zip(counts).filter(|(wrong, &count)| wrong.is_barred(op) && count == 0);
+        let name = name_of(op);
+        unfound.extend(none.map(|(wrong, _)| format!("{name}, {}", wrong.name())));
+    }
+    unfound
+}
