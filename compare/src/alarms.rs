@@ -56,7 +56,7 @@ impl Wrong {
         }
     }
 
-    /// May there be no such bit? ADD and SUB are sound, and no more is claimed of them.
+    /// Is such a bit a failure? Of ADD and SUB only soundness is asked.
     pub fn is_barred(self, op: u8) -> bool {
         self == Wrong::TooLittle || (op != op::ADD && op != op::SUB)
     }

@@ -12,7 +12,7 @@ use crate::systematic::FAMILIES;
 use crate::types::State;
 use sorts::Sorts;
 
-pub use sorts::MET_IN;
+pub use sorts::{is_settled, MET_IN};
 
 /// Accepted calls are counted as number 0.
 const NUMBERS: usize = 12;

@@ -1,7 +1,7 @@
 //! The numbering of the cases: first all the counted ones, mixed, then the drawn ones.
 
 use crate::cases::{self, Case};
-use crate::counted::Counted;
+use crate::families::Counted;
 use crate::prng::Prng;
 use crate::systematic::FAMILIES;
 

@@ -4,7 +4,7 @@ mod images;
 mod runs;
 
 use crate::cases::{self, Budget, Call, Case};
-use crate::counted::{Choices, Family};
+use crate::families::{Choices, Family};
 use crate::images::{op, Image, Operand, Region, Row, FILLED, UNDEFINED};
 use crate::prng::Prng;
 

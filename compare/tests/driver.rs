@@ -94,6 +94,7 @@ fn a_wrong_alarm_is_told_in_words() {
     assert!(words.ends_with(": too much"), "{words}");
     assert!(first("add_no_carry").ends_with(": too little"));
     assert!(first("refusal_11_outputs_at_places").ends_with(": no run of one step"));
+    assert!(first("eq_defined_bits").ends_with(": the data depend on V"));
 }
 
 #[test]

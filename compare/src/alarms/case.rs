@@ -3,8 +3,8 @@
 use super::counted::FAMILIES;
 use super::drawn::drawn;
 use super::fillings::{Filling, Operands};
-use crate::counted::Counted;
 use crate::edges;
+use crate::families::Counted;
 use crate::images::{op, Image, Row};
 use crate::prng::Prng;
 use crate::types::State;

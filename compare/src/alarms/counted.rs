@@ -2,8 +2,8 @@
 
 use super::case::Case;
 use super::fillings::Operands;
-use crate::counted::{Choices, Family};
 use crate::edges;
+use crate::families::{Choices, Family};
 use crate::images::{op, Operand, Row};
 use crate::prng::Prng;
 

@@ -32,6 +32,11 @@ fn bits(word: u32) -> impl Iterator<Item = u32> {
 }
 
 impl Operands {
+    /// The filling that leaves the data what they are, which is always among those made.
+    pub fn as_they_are(&self) -> Filling {
+        [self.x, self.y]
+    }
+
     /// How many bits of both together are undefined.
     pub fn undefined(&self) -> u32 {
         self.v.count_ones() + self.w.count_ones()
@@ -63,8 +68,9 @@ impl Operands {
     /// - XOR: any bit that is turned turns it.
     /// - SHL, SHR, SAR: it is one bit of a, which is turned.
     /// - EQ: on the ground of equal words it is 1 unless defined bits differ, and 0 with a bit turned.
-    /// - ADD: a bit that is turned turns its own place, noughts and ones differ where carries may come.
-    /// - SUB: likewise, with noughts in a and ones in B and the other way round, where borrows may come.
+    /// - ADD: a bit that is turned turns its own place; elsewhere the carry varies, which is least with
+    ///   noughts and greatest with ones.
+    /// - SUB: likewise the borrow, with ones in a and noughts in B and the other way round.
     fn some(&self, drawn: Filling) -> Vec<Filling> {
         let Operands { v, w, .. } = *self;
         let mut fillings = Vec::new();

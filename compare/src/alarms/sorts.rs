@@ -3,7 +3,7 @@
 use super::case::is_shift;
 use super::layout::{cell, name_of, Layout};
 use super::{Case, Operands, Seen, OPS};
-use crate::coverage::{add, MET_IN};
+use crate::coverage::{add, is_settled, MET_IN};
 use crate::images::op;
 
 /// What a sort looks at.
@@ -19,7 +19,7 @@ struct Met<'a> {
 impl Met<'_> {
     fn is_settled(&self) -> bool {
         let Operands { x, v, y, w } = self.operands;
-        (x ^ y) & !v & !w != 0
+        is_settled(x, v, y, w)
     }
 
     fn vacates(&self) -> bool {

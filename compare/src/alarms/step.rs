@@ -53,11 +53,15 @@ impl Stepper<'_> {
     /// The case as it is, and with every filling.
     pub fn look(&mut self, case: &Case) -> Result<Seen, String> {
         self.desk.image = case.image();
-        let called = self.step(case.state)?.vregs[case.d()];
+        let State { regs, vregs, .. } = *self.step(case.state)?;
+        let (data, called) = (regs[case.d()], vregs[case.d()]);
         let (mut ones, mut noughts) = (0, 0);
         let fillings = case.fillings();
         for &filling in &fillings {
             let result = self.step(case.filled(filling))?.regs[case.d()];
+            if filling == case.operands.as_they_are() && result != data {
+                return Err("the data depend on V".to_string());
+            }
             ones |= result;
             noughts |= !result;
         }

@@ -19,7 +19,7 @@ const COLUMNS: [&str; 8] = [
 ];
 
 const UNCLAIMED: &str =
-    "ADD and SUB: claimed of nothing, though a bit that varies only would be a fault";
+    "nothing is claimed of ADD and SUB, but a bit of theirs that varies only would be a failure";
 
 #[derive(Default)]
 pub struct Tally {

@@ -33,13 +33,13 @@ impl Found {
     }
 
     /// In any op.
-    fn is_so(&self, wrong: usize) -> bool {
-        self.0.iter().any(|ways| ways[wrong])
+    fn is_so(&self, wrong: Wrong) -> bool {
+        self.0.iter().any(|ways| ways[wrong as usize])
     }
 
     /// The ways in which it is wrong.
     pub fn words(&self) -> &'static str {
-        match [self.is_so(0), self.is_so(1)] {
+        match WRONGS.map(|wrong| self.is_so(wrong)) {
             [true, true] => "both",
             [true, false] => Wrong::TooMuch.name(),
             [false, true] => Wrong::TooLittle.name(),
@@ -73,7 +73,7 @@ pub fn table<'a>(found: impl Iterator<Item = &'a Found> + Clone) -> String {
         layout.line(name_of(op), cells.map(|(wrong, count)| cell(wrong.is_barred(op), count)))
     };
     let rows: String = OPS.iter().zip(&counts(found.clone())).map(row).collect();
-    let of_any = [0, 1].map(|wrong| found.clone().filter(|found| found.is_so(wrong)).count());
+    let of_any = WRONGS.map(|wrong| found.clone().filter(|found| found.is_so(wrong)).count());
     layout.line("", WRONGS.map(Wrong::name)) + &rows + &layout.line("any op", of_any)
 }
 

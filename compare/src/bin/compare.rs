@@ -114,7 +114,7 @@ fn alarms(cases: &Cases, count: u64) -> (alarms::Tally, usize) {
 
 /// One case alone; the status is 1 if it fails.
 fn single(failure: Option<String>) -> ExitCode {
-    println!("{}", failure.as_deref().unwrap_or("compare: 1 case, 0 mismatches"));
+    println!("{}", failure.as_deref().unwrap_or("compare: 1 case, as it should be"));
     ExitCode::from(u8::from(failure.is_some()))
 }
 
@@ -178,7 +178,7 @@ fn bitten(options: &Options, plan: &Plan) -> Part {
     println!("Clauses of demand 3, and how many planted faults break each before any other\n");
     println!("{}", teeth::clause_table(&bites));
     let unbroken = printed("never broken", &teeth::unbroken(&bites));
-    println!("Alarms: how many planted faults call too much undefined, or too little\n");
+    println!("Alarms: planted faults that call a bit that does not vary, or not one that does\n");
     println!("{}", teeth::alarm_table(&bites));
     let unfound = printed("never found", &teeth::unfound_alarms(&bites));
     println!("Planted faults: cases until found, claim cases until demand 3 breaks, and alarms\n");

@@ -87,13 +87,17 @@ fn carry(step: &Step) -> usize {
     }
 }
 
+/// Do two words differ in a bit that is defined in both?
+pub fn is_settled(x: u32, v: u32, y: u32, w: u32) -> bool {
+    (x ^ y) & !(v | w) != 0
+}
+
 fn equality(step: &Step) -> usize {
     let Step { x, v, y, w, one_register, .. } = *step;
-    let settled = (x ^ y) & !(v | w) != 0;
     match v | w {
         0 => 0,
         _ if one_register => 1,
-        _ if !settled => 2 + usize::from(x != y),
+        _ if !is_settled(x, v, y, w) => 2 + usize::from(x != y),
         _ => 4 + step.whose(),
     }
 }

@@ -204,6 +204,8 @@ fn a_wrong_rule_is_seen_in_its_direction() {
     assert_eq!(seen("and_lacks_mirror", AND, (0, 0xFF), (0xF, 0)), (0xFF, 0xF));
     assert_eq!(seen("and_lacks_mirror", AND, (0, ONES), (0xF, 0)), (ONES, 0xF));
     assert_eq!(seen("or_undefined_in_both", OR, (0, ONES), (0, 0xF)), (0xF, ONES));
+    assert_eq!(seen("xor_and_of_v", XOR, (0, ONES), (0, 0xF)), (0xF, ONES));
+    assert_eq!(seen("shl_v_rotates", SHL, (0, ONES), (4, 0)), (ONES, 0xFFFF_FFF0));
     assert_eq!(seen("mov_whole_byte_undefined", MOV, (0, 0), (0, 0x100)), (0xFF00, 0x100));
     assert_eq!(seen("mov_defined", MOV, (0, 0), (0, ONES)), (0, ONES));
     assert_eq!(seen("shl_vacated_undefined", SHL, (0, 0x80), (4, 0)), (0x80F, 0x800));

@@ -1,4 +1,4 @@
--- Laws of agreement: what is kept when both machines do the same to numbers that agree.
+-- Laws of agreement: what is kept when both machines do the same to numbers that agree, and what a sound rule may call undefined besides.
 use mathlib.Core.Path.{_≡_, refl, sym, ap, ap₂, _∙_}
 use mathlib.Core.Logic.{_⊎_, ⊎-elim}
 use mathlib.Core.Bool.{Bool}

@@ -13,7 +13,7 @@ use Rattle.rules.specs.Actions.{movOf, andOf, orOf, xorOf, shlOf, shrOf,
 use Rattle.rules.specs.Shadows.{Rule, UifU, low, high, movV, andV, orV, xorV, shiftV, apart, eqV, ltuV}
 use Rattle.rules.specs.Operations.{actionOf, shadowOf}
 use Rattle.rules.specs.Agreement.{Agree, Alike, Sound}
-use Rattle.rules.specs.Alarms.{Choice, Varies, ResultVaries, Exact, Claimed, and, or, xor, eq, shl, shr, sar, claimed, AnyWord, Covered, Real, MovReal}
+use Rattle.rules.specs.Alarms.{Choice, Varies, ResultVaries, Exact, Claimed, and, or, xor, eq, shl, shr, sar, operationOf, AnyWord, Covered, Real, MovReal}
 use Rattle.rules.proofs.Bits.{lt-or-ge, bit-lt, bit-zero, bit-high, zero-or-one, bit-and, bit-or, bit-xor, differ-sum, bits-equal, bit-not}
 use Rattle.rules.proofs.Agreement.{alike-below, alike-self, Moves}
 use Rattle.rules.proofs.Bitwise.{and-rule}
@@ -22,7 +22,7 @@ use Rattle.rules.proofs.Shift.{shl-moves, shr-moves, sar-moves}
 use Rattle.rules.proofs.Compare.{test-sound, apart-none}
 use Rattle.rules.proofs.Sound.{mov-sound, sound}
 
--- ---- the shared fact: a bit in which every choice agrees with the data does not vary
+-- ---- the shared fact: where every choice agrees with the data in each defined bit, a bit that varies is undefined
 pub varies-undefined : {C : Type 0} {result : C → ℕ} (u z i : ℕ) → ((c : C) → Agree u z (result c)) → Varies C result i → bit i u ≡ 1
 unfolding Agree
 varies-undefined u z i agree t =
@@ -43,7 +43,7 @@ least {x} {v} hx hv = record { word = low x v; alike = alike-low hv hx }
 greatest : {x v : ℕ} → x < 2 ^ 32 → v < 2 ^ 32 → Choice x v
 greatest {x} {v} hx hv = record { word = high x v; alike = alike-high hv hx }
 
--- another choice: every undefined bit is what it is not in this one
+-- a choice with every undefined bit flipped
 flipped : {x v : ℕ} → Choice x v → Choice x v
 unfolding Agree
 flipped {x} {v} c =
@@ -233,8 +233,8 @@ mov-real y w i hy hw = (
   varies-undefined (movV w) (movOf y) i (λ c. mov-sound (c .alike) .agree),
 )
 
-undefined-varies : (o : Claimed) (i : ℕ) {x v y w : ℕ} → x < 2 ^ 32 → v < 2 ^ 32 → y < 2 ^ 32 → w < 2 ^ 32 → Covered o w → bit i (shadowOf (claimed o) false x v y w) ≡ 1 → ResultVaries (actionOf (claimed o)) x v y w i
-unfolding Covered claimed shadowOf actionOf
+undefined-varies : (o : Claimed) (i : ℕ) {x v y w : ℕ} → x < 2 ^ 32 → v < 2 ^ 32 → y < 2 ^ 32 → w < 2 ^ 32 → Covered o w → bit i (shadowOf (operationOf o) false x v y w) ≡ 1 → ResultVaries (actionOf (operationOf o)) x v y w i
+unfolding Covered operationOf shadowOf actionOf
 undefined-varies and i hx hv hy hw k = and-varies i hx hv hy hw
 undefined-varies or i hx hv hy hw k = or-varies i hx hv hy hw
 undefined-varies xor i hx hv hy hw k = xor-varies i hx hv hy hw
@@ -247,8 +247,8 @@ pub real : (o : Claimed) → Real o
 unfolding Real Exact Sound
 real o x v y w i hx hv hy hw k = (
   undefined-varies o i hx hv hy hw k,
-  varies-undefined (shadowOf (claimed o) false x v y w) (actionOf (claimed o) x y) i
-      (λ c. sound (claimed o) false x v (c .0 .word) y w (c .1 .word) (λ e. absurd (true≢false (sym e))) (c .0 .alike) (c .1 .alike) .agree),
+  varies-undefined (shadowOf (operationOf o) false x v y w) (actionOf (operationOf o) x y) i
+      (λ c. sound (operationOf o) false x v (c .0 .word) y w (c .1 .word) (λ e. absurd (true≢false (sym e))) (c .0 .alike) (c .1 .alike) .agree),
 )
 
 -- ---- that it says something
@@ -268,18 +268,18 @@ exact-only f rule other W p q x v y w i hx hv hy hw k =
         (λ (o : bit i a ≡ 1). o ∙ sym (there o))
         (zero-or-one i a)
 
--- pinned cases of EQ (02, L4): where nothing but an undefined bit can tell the words apart the answer varies; where bit 0 does, it does not
+-- pinned cases of EQ (02, L4): where nothing but an undefined bit can tell the words apart the answer varies; where bit 0, which is defined, tells them apart it does not
 pub unsettled-varies : ResultVaries eqOf 0 0x80 0 0 0
-unfolding Real Exact Covered claimed shadowOf actionOf bit
+unfolding Real Exact Covered operationOf shadowOf actionOf bit
 unsettled-varies = real eq 0 0x80 0 0 0 (omega arith) (omega arith) (omega arith) (omega arith) tt .0 refl
 
 pub settled-stays : ResultVaries eqOf 1 0x80 0 0 0 → ⊥
-unfolding Real Exact Covered claimed shadowOf actionOf bit
+unfolding Real Exact Covered operationOf shadowOf actionOf bit
 settled-stays t = omega (arith, real eq 1 0x80 0 0 0 (omega arith) (omega arith) (omega arith) (omega arith) tt .1 t)
 
 -- of SHL (01): nothing moves into the places that are left free
 pub vacated-stays : ResultVaries shlOf 0x81 0x81 4 0 0 → ⊥
-unfolding Real Exact Covered claimed shadowOf actionOf bit
+unfolding Real Exact Covered operationOf shadowOf actionOf bit
 vacated-stays t = omega (arith, real shl 0x81 0x81 4 0 0 (omega arith) (omega arith) (omega arith) (omega arith) refl .1 t)
 
 -- soundness alone would not do: 01's own rule for EQ, which LTU keeps, is sound for it, and not exact

@@ -63,7 +63,7 @@ bit-and = bit-op bitAnd min and-shr and-step (λ x y hx hy. omega arith)
 pub bit-or : (i a b : ℕ) → bit i (bitOr a b) ≡ max (bit i a) (bit i b)
 bit-or = bit-op bitOr max or-shr or-step (λ x y hx hy. omega arith)
 
--- two digits differ by their sum less twice what both have
+-- the difference of two numbers is their sum less twice the smaller
 pub differ-sum : (a b : ℕ) → differ a b + min a b * 2 ≡ a + b
 differ-sum zero b = omega arith
 differ-sum (suc a) zero = omega arith

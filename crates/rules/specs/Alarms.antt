@@ -49,34 +49,35 @@ pub data Claimed : Type 0 where
   sar : Claimed
 
 -- which operation each is
-unfoldable pub claimed : Claimed → Operation
-claimed and = And
-claimed or = Or
-claimed xor = Xor
-claimed eq = Eq
-claimed shl = Shl
-claimed shr = Shr
-claimed sar = Sar
+unfoldable pub operationOf : Claimed → Operation
+operationOf and = And
+operationOf or = Or
+operationOf xor = Xor
+operationOf eq = Eq
+operationOf shl = Shl
+operationOf shr = Shr
+operationOf sar = Sar
 
--- the V words of B that the claim is about: any; for a shift 0 alone
 abbrev pub AnyWord : ℕ → Type 0
 AnyWord w = Unit {0}
 
-abbrev pub Defined : ℕ → Type 0
-Defined w = w ≡ 0
+-- the V word of a word without undefined bits
+abbrev pub AllDefined : ℕ → Type 0
+AllDefined w = w ≡ 0
 
+-- the V words of B that the claim is about: any; of a shift 0 alone
 unfoldable pub Covered : Claimed → ℕ → Type 0
 Covered and = AnyWord
 Covered or = AnyWord
 Covered xor = AnyWord
 Covered eq = AnyWord
-Covered shl = Defined
-Covered shr = Defined
-Covered sar = Defined
+Covered shl = AllDefined
+Covered shr = AllDefined
+Covered sar = AllDefined
 
 -- the claim, of one operation
 unfoldable pub Real : Claimed → Type 0
-Real o = Exact (actionOf (claimed o)) (shadowOf (claimed o)) (Covered o)
+Real o = Exact (actionOf (operationOf o)) (shadowOf (operationOf o)) (Covered o)
 
 -- and of MOV, which has one operand, B: a register or a literal
 unfoldable pub MovReal : Type 0

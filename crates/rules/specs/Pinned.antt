@@ -77,7 +77,7 @@ pinned =
     ∷ does And true 0xF0F0 0xFF00 0xF0F0 0xFF00 0xF0F0 0xFF00
     ∷ does Or true 0xF0F0 0xFF00 0xF0F0 0xFF00 0xF0F0 0xFF00
     ∷ does Mul true 6 4 6 4 0x24 0xFFFF_FFFC
-    ∷ does Shl true 1 1 1 1 2 allOnes
+    ∷ does Shl true 0x21 0 0x21 0 0x42 0
     ∷ does Shr true 0x22 0 0x22 0 8 0
     ∷ does Sar true 0x8000_0001 0 0x8000_0001 0 0xC000_0000 0
     ∷ does Eq false 0 0 0x8000_0000 0 0 0
@@ -96,11 +96,13 @@ pinned =
     ∷ does Eq false 0x50 0xF0 0x05 0x0F 0 1
     ∷ does Eq false 0x150 0xF0 0x05 0x0F 0 0
     ∷ does Eq true 7 0x80 7 0x80 1 1
+    ∷ does Eq true 7 0 7 0 1 0
     ∷ does Ltu false 1 0 0x8000_0000 0 1 0
     ∷ does Ltu false 1 0 1 0x8000_0000 0 1
     ∷ does Ltu false 0 0x80 1 0 1 1
     ∷ does Ltu false 0 0x80 0x8000_0000 0 1 1
     ∷ does Ltu true 1 1 1 1 0 1
+    ∷ does Ltu true 7 0 7 0 0 0
     ∷ []
 
 abbrev pub Holds : Row → Type 0

@@ -102,12 +102,12 @@ const OTHERS: [Case; 14] = [
     Case(Operation::And, true, 0xf0f0, 0xff00, 0xf0f0, 0xff00),
     Case(Operation::Or, true, 0xf0f0, 0xff00, 0xf0f0, 0xff00),
     Case(Operation::Mul, true, 6, 4, 6, 4),
-    Case(Operation::Shl, true, 1, 1, 1, 1),
+    Case(Operation::Shl, true, 0x21, 0, 0x21, 0),
     Case(Operation::Shr, true, 0x22, 0, 0x22, 0),
     Case(Operation::Sar, true, 0x8000_0001, 0, 0x8000_0001, 0),
 ];
 
-const COMPARED: [Case; 21] = [
+const COMPARED: [Case; 23] = [
     Case(Operation::Eq, false, 0, 0, 0x8000_0000, 0),
     Case(Operation::Eq, false, 7, 0, 7, 0),
     Case(Operation::Eq, false, 1, 0, 1, 0x8000_0000),
@@ -124,11 +124,13 @@ const COMPARED: [Case; 21] = [
     Case(Operation::Eq, false, 0x50, 0xf0, 0x05, 0x0f),
     Case(Operation::Eq, false, 0x150, 0xf0, 0x05, 0x0f),
     Case(Operation::Eq, true, 7, 0x80, 7, 0x80),
+    Case(Operation::Eq, true, 7, 0, 7, 0),
     Case(Operation::Ltu, false, 1, 0, 0x8000_0000, 0),
     Case(Operation::Ltu, false, 1, 0, 1, 0x8000_0000),
     Case(Operation::Ltu, false, 0, 0x80, 1, 0),
     Case(Operation::Ltu, false, 0, 0x80, 0x8000_0000, 0),
     Case(Operation::Ltu, true, 1, 1, 1, 1),
+    Case(Operation::Ltu, true, 7, 0, 7, 0),
 ];
 
 // Where each part begins, and all end.
@@ -140,7 +142,7 @@ const OTHERS_FROM: usize = 41;
 
 const COMPARED_FROM: usize = 55;
 
-const ROWS: usize = 76;
+const ROWS: usize = 78;
 
 fn operate(c: Case) {
     let op = c.0;
