@@ -2,15 +2,15 @@
 use mathlib.Core.Path.{_≡_, refl, sym, ap, ap₂, _∙_}
 use mathlib.Core.Logic.{_⊎_, ⊎-elim}
 use mathlib.Core.Bool.{Bool}
-use Prim.Native.Nat.{ℕ, _-_, _^_, _≤_, _<_, max}
+use Prim.Native.Nat.{ℕ, _-_, _^_, _≤_, _<_, min, max}
 use native.Mathlib.Nat.{lt-of-lt-of-le}
 use native.Mathlib.Omega.{arith}
 use lib.Pow.{pow-mono, ones-lt}
-use lib.Bits.{bitOr, or-lt}
+use lib.Bits.{bitOr, and-lt, or-lt}
 use Rattle.rules.specs.Word.{bit, inverted}
-use Rattle.rules.specs.Shadows.{Rule, UifU}
+use Rattle.rules.specs.Shadows.{Rule, UifU, low, high}
 use Rattle.rules.specs.Agreement.{Agree, Alike, Sound}
-use Rattle.rules.proofs.Bits.{lt-or-ge, bit-zero, bit-high, bit-or, bit-not, bit-ones, bits-equal}
+use Rattle.rules.proofs.Bits.{lt-or-ge, bit-lt, bit-zero, bit-high, bit-and, bit-or, bit-not, bit-ones, bits-equal}
 
 -- it is enough to look at the n low bits
 pub alike-below : (n : ℕ) {v x x′ : ℕ} → v < 2 ^ n → x < 2 ^ n → x′ < 2 ^ n → ((i : ℕ) → i < n → bit i v ≡ 0 → bit i x ≡ bit i x′) → Alike n v x x′
@@ -63,6 +63,16 @@ alike-wider m l a =
       agree = a .agree;
     }
 
+-- the least and the greatest word that an operand can be agree with it
+pub bit-low : (i x v : ℕ) → i < 32 → v < 2 ^ 32 → bit i (low x v) ≡ min (bit i x) (1 - bit i v)
+bit-low i x v l hv = bit-and i x (inverted v) ∙ ap (min (bit i x)) (bit-not 32 i v l hv)
+
+pub alike-low : {v x : ℕ} → v < 2 ^ 32 → x < 2 ^ 32 → Alike 32 v x (low x v)
+alike-low {v} {x} hv hx = alike-below 32 hv hx (and-lt 32 x (inverted v) hx (omega arith)) (λ i l z. omega (arith, bit-low i x v l hv, bit-lt i x))
+
+pub alike-high : {v x : ℕ} → v < 2 ^ 32 → x < 2 ^ 32 → Alike 32 v x (high x v)
+alike-high {v} {x} hv hx = alike-below 32 hv hx (or-lt 32 x v hx hv) (λ i l z. omega (arith, bit-or i x v))
+
 -- more bits may be called undefined
 alike-more : {n v x x′ : ℕ} (u : ℕ) → u < 2 ^ n → Alike n v x x′ → Alike n (UifU v u) x x′
 unfolding Agree
@@ -74,7 +84,7 @@ alike-more {n} {v} u h a =
       agree = λ i z. a .agree i (omega (arith, sym (bit-or i v u) ∙ z));
     }
 
--- so a sound rule stays sound if it calls more undefined: soundness does not shut false alarms out. In the operations of 02, L14, `real` does (proofs/Alarms.antt).
+-- so a sound rule stays sound if it calls more undefined: soundness does not shut false alarms out. In the operations of 02, L14, `real` does (proofs/Real.antt).
 pub sound-more : (f : ℕ → ℕ → ℕ) (rule more : Rule) → ((same : Bool) (x v y w : ℕ) → more same x v y w < 2 ^ 32) → Sound f rule → Sound f (λ same x v y w. UifU (rule same x v y w) (more same x v y w))
 unfolding Sound
 sound-more f rule more range sound same x v x′ y w y′ one a b = alike-more (more same x v y w) (range same x v y w) (sound same x v x′ y w y′ one a b)

@@ -1,7 +1,7 @@
--- The alarms are real (02, L14). A sound rule calls every varying bit undefined; and for a bit that it calls undefined each rule has two choices that give it different values.
+-- Each rule's two choices (02, L14): for a bit that it calls undefined they give different values.
 use mathlib.Core.Path.{_≡_, refl, sym, ap, ap₂, _∙_}
 use mathlib.Core.Logic.{_↔_, _⊎_, inl, inr, ⊎-elim}
-use mathlib.Core.Bool.{Bool, true, false, true≢false, cond, not, _||_}
+use mathlib.Core.Bool.{Bool, true, false, cond, not, _||_}
 use Prim.Native.Nat.{ℕ, zero, _-_, _^_, _≤_, _<_, min, max}
 use native.Mathlib.Nat.{eq-zero-or-pos}
 use native.Mathlib.Omega.{arith}
@@ -10,26 +10,15 @@ use lib.Dec.{eqb}
 use lib.Bits.{bitAnd, bitOr, bitXor, differ, and-lt, or-lt, xor-lt}
 use Rattle.rules.specs.Word.{bit, inverted, oneIf, allOnes}
 use Rattle.rules.specs.Actions.{movOf, andOf, orOf, xorOf, shlOf, shrOf, sarOf, eqOf}
-use Rattle.rules.specs.Shadows.{Rule, UifU, low, high, movV, andV, orV, xorV, shiftV, apart, eqV, ltuV}
+use Rattle.rules.specs.Shadows.{UifU, low, high, movV, andV, orV, xorV, shiftV, apart, eqV}
 use Rattle.rules.specs.Operations.{actionOf, shadowOf}
-use Rattle.rules.specs.Agreement.{Agree, Alike, Sound}
-use Rattle.rules.specs.Alarms.{Choice, Varies, ResultVaries, Exact, Claimed, and, or, xor, eq, shl, shr, sar, operationOf, AnyWord, Covered, Real, MovReal}
+use Rattle.rules.specs.Agreement.{Agree}
+use Rattle.rules.specs.Alarms.{Choice, Varies, ResultVaries, Claimed, and, or, xor, eq, shl, shr, sar, operationOf, Covered}
 use Rattle.rules.proofs.Bits.{lt-or-ge, bit-lt, bit-zero, bit-high, zero-or-one, bit-and, bit-or, bit-xor, differ-sum, bits-equal, bit-not}
-use Rattle.rules.proofs.Agreement.{alike-below, alike-self, Moves}
+use Rattle.rules.proofs.Agreement.{alike-below, alike-self, bit-low, alike-low, alike-high, Moves}
 use Rattle.rules.proofs.Bitwise.{and-rule}
-use Rattle.rules.proofs.Sum.{bit-low, alike-low, alike-high}
 use Rattle.rules.proofs.Shift.{shl-moves, shr-moves, sar-moves}
-use Rattle.rules.proofs.Compare.{test-sound, apart-none}
-use Rattle.rules.proofs.Sound.{mov-sound, sound}
-
--- ---- the shared fact: where every choice agrees with the data in each defined bit, a bit that varies is undefined
-pub varies-undefined : {C : Type 0} {result : C → ℕ} (u z i : ℕ) → ((c : C) → Agree u z (result c)) → Varies C result i → bit i u ≡ 1
-unfolding Agree
-varies-undefined u z i agree t =
-    ⊎-elim
-    (λ (d : bit i u ≡ 0). absurd (t .differ (sym (agree (t .one) i d) ∙ agree (t .other) i d)))
-    (λ (o : bit i u ≡ 1). o)
-    (zero-or-one i u)
+use Rattle.rules.proofs.Compare.{apart-none}
 
 -- ---- choices
 itself : {x v : ℕ} → x < 2 ^ 32 → v < 2 ^ 32 → Choice x v
@@ -225,15 +214,13 @@ module _ (i : ℕ) {x v y w : ℕ} (hx : x < 2 ^ 32) (hv : v < 2 ^ 32) (hy : y <
           (λ (p : zero < v). by-first eqOf i first-joined d (parted u (flipped-other first-joined (λ z. omega arith))))
           (eq-zero-or-pos v)
 
--- ---- the theorem
-pub mov-real : MovReal
-unfolding MovReal itself
-mov-real y w i hy hw = (
-  (λ o. record { one = itself hy hw; other = flipped (itself hy hw); differ = λ s. omega (arith, s, flipped-bit i (itself hy hw) o, bit-lt i y) }),
-  varies-undefined (movV w) (movOf y) i (λ c. mov-sound (c .alike) .agree),
-)
+-- ---- MOV: its operand, and the operand flipped
+pub mov-varies : (i : ℕ) {y w : ℕ} → y < 2 ^ 32 → w < 2 ^ 32 → bit i (movV w) ≡ 1 → Varies (Choice y w) (λ c. movOf (c .word)) i
+unfolding itself
+mov-varies i {y} hy hw o = record { one = itself hy hw; other = flipped (itself hy hw); differ = λ s. omega (arith, s, flipped-bit i (itself hy hw) o, bit-lt i y) }
 
-undefined-varies : (o : Claimed) (i : ℕ) {x v y w : ℕ} → x < 2 ^ 32 → v < 2 ^ 32 → y < 2 ^ 32 → w < 2 ^ 32 → Covered o w → bit i (shadowOf (operationOf o) false x v y w) ≡ 1 → ResultVaries (actionOf (operationOf o)) x v y w i
+-- ---- so in every operation of the claim
+pub undefined-varies : (o : Claimed) (i : ℕ) {x v y w : ℕ} → x < 2 ^ 32 → v < 2 ^ 32 → y < 2 ^ 32 → w < 2 ^ 32 → Covered o w → bit i (shadowOf (operationOf o) false x v y w) ≡ 1 → ResultVaries (actionOf (operationOf o)) x v y w i
 unfolding Covered operationOf shadowOf actionOf
 undefined-varies and i hx hv hy hw k = and-varies i hx hv hy hw
 undefined-varies or i hx hv hy hw k = or-varies i hx hv hy hw
@@ -242,50 +229,3 @@ undefined-varies eq i hx hv hy hw k = eq-varies i hx hv hy hw
 undefined-varies shl i hx hv hy hw k = shift-varies shlOf shl-moves i hx hv hy k
 undefined-varies shr i hx hv hy hw k = shift-varies shrOf shr-moves i hx hv hy k
 undefined-varies sar i hx hv hy hw k = shift-varies sarOf sar-moves i hx hv hy k
-
-pub real : (o : Claimed) → Real o
-unfolding Real Exact Sound
-real o x v y w i hx hv hy hw k = (
-  undefined-varies o i hx hv hy hw k,
-  varies-undefined (shadowOf (operationOf o) false x v y w) (actionOf (operationOf o) x y) i
-      (λ c. sound (operationOf o) false x v (c .0 .word) y w (c .1 .word) (λ e. absurd (true≢false (sym e))) (c .0 .alike) (c .1 .alike) .agree),
-)
-
--- ---- that it says something
--- the action alone fixes the V bits: there are no two exact rules
-pub exact-only : (f : ℕ → ℕ → ℕ) (rule other : Rule) (W : ℕ → Type 0) → Exact f rule W → Exact f other W
-    → (x v y w i : ℕ) → x < 2 ^ 32 → v < 2 ^ 32 → y < 2 ^ 32 → w < 2 ^ 32 → W w → bit i (rule false x v y w) ≡ bit i (other false x v y w)
-unfolding Exact
-exact-only f rule other W p q x v y w i hx hv hy hw k =
-    both-set (rule false x v y w) (other false x v y w)
-    (λ o. q x v y w i hx hv hy hw k .1 (p x v y w i hx hv hy hw k .0 o))
-    (λ o. p x v y w i hx hv hy hw k .1 (q x v y w i hx hv hy hw k .0 o))
-  where
-    both-set : (a b : ℕ) → (bit i a ≡ 1 → bit i b ≡ 1) → (bit i b ≡ 1 → bit i a ≡ 1) → bit i a ≡ bit i b
-    both-set a b there back =
-        ⊎-elim
-        (λ (z : bit i a ≡ 0). ⊎-elim (λ (u : bit i b ≡ 0). z ∙ sym u) (λ (o : bit i b ≡ 1). back o ∙ sym o) (zero-or-one i b))
-        (λ (o : bit i a ≡ 1). o ∙ sym (there o))
-        (zero-or-one i a)
-
--- pinned cases of EQ (02, L4): where nothing but an undefined bit can tell the words apart the answer varies; where bit 0, which is defined, tells them apart it does not
-pub unsettled-varies : ResultVaries eqOf 0 0x80 0 0 0
-unfolding Real Exact Covered operationOf shadowOf actionOf bit
-unsettled-varies = real eq 0 0x80 0 0 0 (omega arith) (omega arith) (omega arith) (omega arith) tt .0 refl
-
-pub settled-stays : ResultVaries eqOf 1 0x80 0 0 0 → ⊥
-unfolding Real Exact Covered operationOf shadowOf actionOf bit
-settled-stays t = omega (arith, real eq 1 0x80 0 0 0 (omega arith) (omega arith) (omega arith) (omega arith) tt .1 t)
-
--- of SHL (01): nothing moves into the places that are left free
-pub vacated-stays : ResultVaries shlOf 0x81 0x81 4 0 0 → ⊥
-unfolding Real Exact Covered operationOf shadowOf actionOf bit
-vacated-stays t = omega (arith, real shl 0x81 0x81 4 0 0 (omega arith) (omega arith) (omega arith) (omega arith) refl .1 t)
-
--- soundness alone would not do: 01's own rule for EQ, which LTU keeps, is sound for it, and not exact
-pub first-rule-sound : Sound eqOf ltuV
-first-rule-sound = test-sound eqb
-
-pub first-rule-inexact : Exact eqOf ltuV AnyWord → ⊥
-unfolding Exact bit
-first-rule-inexact e = settled-stays (e 1 0x80 0 0 0 (omega arith) (omega arith) (omega arith) (omega arith) tt .0 refl)

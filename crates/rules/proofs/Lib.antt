@@ -8,6 +8,7 @@ pub mod Sum
 pub mod Bitwise
 pub mod Shift
 pub mod Compare
-pub mod Sound
 pub mod Alarms
+pub mod Sound
+pub mod Real
 pub mod Pinned

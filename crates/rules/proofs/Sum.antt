@@ -2,7 +2,7 @@
 use mathlib.Core.Path.{_≡_, sym, ap, ap₂, _∙_, subst, subst₂}
 use mathlib.Core.Logic.{⊎-elim}
 use mathlib.Core.Bool.{Bool}
-use Prim.Native.Nat.{ℕ, zero, suc, _+_, _-_, _*_, _/_, _%_, _^_, _≤_, _<_, min, max}
+use Prim.Native.Nat.{ℕ, zero, suc, _+_, _-_, _*_, _/_, _%_, _^_, _≤_, _<_, max}
 use native.Mathlib.Nat.{add-zero, mod-lt, div-lt-iff-lt-mul, mul-add-div-right, mul-le-mul-right}
 use native.Mathlib.Omega.{arith}
 use lib.Pow.{pow-pos, split, shr-mono}
@@ -11,8 +11,8 @@ use Rattle.rules.specs.Word.{bit, wrapped, inverted, negated}
 use Rattle.rules.specs.Actions.{addOf, subOf}
 use Rattle.rules.specs.Shadows.{UifU, Left, leftV, low, high, addV, subV}
 use Rattle.rules.specs.Agreement.{Agree, Alike, Sound, Within}
-use Rattle.rules.proofs.Bits.{bit-lt, zero-or-one, bit-and, bit-or, bit-xor, differ-self, differ-none, bit-mod, low-suc, bits-equal, bit-not}
-use Rattle.rules.proofs.Agreement.{alike-below, alike-self, alike-swapped, alike-joined, alike-inverted}
+use Rattle.rules.proofs.Bits.{bit-lt, zero-or-one, bit-or, bit-xor, differ-self, differ-none, bit-mod, low-suc, bits-equal, bit-not}
+use Rattle.rules.proofs.Agreement.{alike-below, alike-self, alike-swapped, alike-joined, alike-inverted, bit-low, alike-low, alike-high}
 use Rattle.rules.proofs.Congruence.{wrapped-lt}
 use Rattle.rules.proofs.Carry.{Carries, add-carries, sub-carries, carries-alike, NoneMore, within-none}
 
@@ -49,9 +49,6 @@ unfolding carry
 carry-le c i {x} {x′} {y} {y′} l p q = shr-mono i (omega (arith, low-le i x x′ (omega arith) p, low-le i y y′ (omega arith) q))
 
 -- ---- an operand lies between its least and its greatest word
-pub bit-low : (i x v : ℕ) → i < 32 → v < 2 ^ 32 → bit i (low x v) ≡ min (bit i x) (1 - bit i v)
-bit-low i x v l hv = bit-and i x (inverted v) ∙ ap (min (bit i x)) (bit-not 32 i v l hv)
-
 above-low : {v x x′ : ℕ} → Alike 32 v x x′ → AtMost (low x v) x′
 unfolding Agree
 above-low {v} {x} {x′} a =
@@ -74,13 +71,7 @@ below-high {v} {x} {x′} a =
           (zero-or-one j v);
     }
 
--- both are choices of its undefined bits
-pub alike-low : {v x : ℕ} → v < 2 ^ 32 → x < 2 ^ 32 → Alike 32 v x (low x v)
-alike-low {v} {x} hv hx = alike-below 32 hv hx (and-lt 32 x (inverted v) hx (omega arith)) (λ i l z. omega (arith, bit-low i x v l hv, bit-lt i x))
-
-pub alike-high : {v x : ℕ} → v < 2 ^ 32 → x < 2 ^ 32 → Alike 32 v x (high x v)
-alike-high {v} {x} hv hx = alike-below 32 hv hx (or-lt 32 x v hx hv) (λ i l z. omega (arith, bit-or i x v))
-
+-- both agree with it in its defined bits, and so with one another
 alike-ends : {v x : ℕ} → v < 2 ^ 32 → x < 2 ^ 32 → Alike 32 v (low x v) (high x v)
 alike-ends hv hx = alike-joined (alike-low hv hx) (alike-high hv hx)
 
