@@ -1,6 +1,7 @@
 //! Whether the comparison finds a planted fault: each faulty interpreter against the checker.
 
 use crate::alarms::teeth::{self as alarms, Found};
+use crate::alarms::{Case, Cases};
 use crate::checker;
 use crate::claim::{self, Clause, Tally, CLAUSES};
 use crate::compare::{self, Mismatch};
@@ -28,6 +29,7 @@ impl Bite {
     fn of(
         plan: &Plan,
         cases: u64,
+        shares: &[Case],
         (name, sentence, faulty): &(&'static str, &'static str, Engine),
     ) -> Bite {
         let mut unused = Coverage::default();
@@ -37,7 +39,7 @@ impl Bite {
             let failure = claim::try_case(faulty, plan.seed, k, &mut Tally::default()).err()?;
             Some((k + 1, failure.clause()?))
         });
-        let alarms = Found::of(faulty, plan.seed);
+        let alarms = Found::of(faulty, shares);
         Bite { name, sentence, found, claim_broken, alarms }
     }
 
@@ -67,7 +69,9 @@ impl Bite {
 pub fn bites(plan: &Plan, cases: u64, name: Option<&str>) -> Vec<Bite> {
     let asked: Vec<_> =
         FAULTS.iter().filter(|fault| name.is_none_or(|name| name == fault.0)).collect();
-    let work = |at: std::ops::Range<u64>| Bite::of(plan, cases, asked[at.start as usize]);
+    let alarm_cases = Cases::new(plan.seed);
+    let shares = alarms::shares(&alarm_cases, 0..alarm_cases.counted());
+    let work = |at: std::ops::Range<u64>| Bite::of(plan, cases, &shares, asked[at.start as usize]);
     parallel::in_order(0..asked.len() as u64, 1, work)
 }
 

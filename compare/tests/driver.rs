@@ -1,6 +1,7 @@
 //! The driver itself: its images are those of document 01, its cases repeat, its words are plain.
 
-use compare::alarms::{self, Cases, Stepper, Tally};
+use compare::alarms::teeth::{shares, MOST_UNDEFINED, SHARE};
+use compare::alarms::{self, Case, Cases, Stepper, Tally, OPS};
 use compare::calls;
 use compare::cases::Call;
 use compare::compare::compare;
@@ -112,4 +113,22 @@ fn ways_to_be_wrong_that_no_fault_has_are_missed() {
     assert!(unfound.contains(&"MOV, too much".to_string()));
     assert!(unfound.contains(&"SUB, too little".to_string()));
     assert!(!unfound.contains(&"SUB, too much".to_string()));
+}
+
+#[test]
+fn each_op_has_its_share_of_the_cases_for_faults() {
+    let cases = Cases::new(1);
+    let shares = shares(&cases, 0..cases.counted());
+    for op in OPS {
+        let share: Vec<&Case> = shares.iter().filter(|case| case.row.op == op).collect();
+        assert_eq!(share.len(), SHARE, "op {op}");
+        assert!(share.iter().any(|case| case.b().is_none()), "op {op} of a literal");
+        assert!(share.iter().all(|case| case.operands.undefined() <= MOST_UNDEFINED), "op {op}");
+    }
+}
+
+#[test]
+#[should_panic(expected = "cases that MOV lacks of its share")]
+fn a_share_that_is_not_full_is_no_share() {
+    shares(&Cases::new(1), 0..2000);
 }

@@ -13,7 +13,7 @@ struct Met<'a> {
     undefined: u32,
     /// Bits called undefined or varying.
     touched: u32,
-    both: u32,
+    called_and_varies: u32,
 }
 
 impl Met<'_> {
@@ -80,7 +80,7 @@ const SORTS: [Sort; 24] = [
     ("bits of B undefined", has_v_of_b, |met| met.operands.v == 0 && met.operands.w != 0),
     ("bits of both undefined", has_both, |met| met.operands.v != 0 && met.operands.w != 0),
     ("the same bit of both undefined", has_both, |met| met.operands.v & met.operands.w != 0),
-    ("a bit called that varies", any, |met| met.both != 0),
+    ("a bit called that varies", any, |met| met.called_and_varies != 0),
     ("a bit defined all the same", any, |met| met.undefined > 0 && met.touched != u32::MAX),
     ("a word defined all the same", can_hide_all, |met| met.undefined > 0 && met.touched == 0),
     ("amount 0", is_shift, |met| met.operands.y == 0),
@@ -109,7 +109,7 @@ impl Sorts {
             operands: case.operands,
             undefined: case.operands.undefined(),
             touched: seen.called | seen.varies,
-            both: seen.called & seen.varies,
+            called_and_varies: seen.called & seen.varies,
         };
         let counts = SORTS.map(|(_, _, is)| u64::from(is(&met)));
         add(&mut self.0[usize::from(!counted)][place], &counts);

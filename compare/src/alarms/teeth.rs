@@ -1,25 +1,43 @@
 //! Whether the check finds a planted fault: each faulty interpreter in the checker's place.
 
+use std::ops::Range;
+
 use super::layout::{cell, name_of, Layout};
-use super::{place_of, Cases, Seen, Stepper, Wrong, OPS, WRONGS};
+use super::{place_of, Case, Cases, Seen, Stepper, Wrong, OPS, WRONGS};
 use crate::types::Engine;
 
-/// Cases that each fault is tried on, those with more undefined bits left out.
-const CASES: u64 = 2000;
-const MOST_UNDEFINED: u32 = 4;
+/// Cases of each op that every fault is tried on, those with more undefined bits left out.
+pub const SHARE: usize = 200;
+pub const MOST_UNDEFINED: u32 = 4;
+
+/// The first cases of each op among these numbers, a share of each, in their order. Too few are an
+/// error.
+pub fn shares(cases: &Cases, numbers: Range<u64>) -> Vec<Case> {
+    let mut lacking = [SHARE; OPS.len()];
+    let is_taken = |case: &Case| {
+        let lacks = &mut lacking[place_of(case.row.op)];
+        let taken = *lacks > 0 && case.operands.undefined() <= MOST_UNDEFINED;
+        *lacks -= usize::from(taken);
+        taken
+    };
+    let cases = numbers.map(|k| cases.case(k).1);
+    let shares = cases.filter(is_taken).take(SHARE * OPS.len()).collect();
+    for (op, lacks) in OPS.into_iter().zip(lacking) {
+        assert_eq!(lacks, 0, "cases that {} lacks of its share", name_of(op));
+    }
+    shares
+}
 
 /// In which ops the check finds a fault, and how it is wrong there.
 #[derive(Default)]
 pub struct Found([[bool; WRONGS.len()]; OPS.len()]);
 
 impl Found {
-    pub fn of(faulty: &Engine, seed: u64) -> Found {
-        let cases = Cases::new(seed);
+    pub fn of(faulty: &Engine, shares: &[Case]) -> Found {
         let mut stepper = Stepper::new(faulty);
         let mut found = Found::default();
-        let cases = (0..CASES).map(|k| cases.case(k).1);
-        for case in cases.filter(|case| case.operands.undefined() <= MOST_UNDEFINED) {
-            if let Ok(seen) = stepper.look(&case) {
+        for case in shares {
+            if let Ok(seen) = stepper.look(case) {
                 found.add(case.row.op, &seen);
             }
         }
