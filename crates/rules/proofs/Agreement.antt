@@ -63,10 +63,11 @@ alike-wider m l a =
       agree = a .agree;
     }
 
--- the least and the greatest word that an operand can be agree with it
+-- a bit of the least word that an operand can be
 pub bit-low : (i x v : ℕ) → i < 32 → v < 2 ^ 32 → bit i (low x v) ≡ min (bit i x) (1 - bit i v)
 bit-low i x v l hv = bit-and i x (inverted v) ∙ ap (min (bit i x)) (bit-not 32 i v l hv)
 
+-- it agrees with the operand, and so does the greatest
 pub alike-low : {v x : ℕ} → v < 2 ^ 32 → x < 2 ^ 32 → Alike 32 v x (low x v)
 alike-low {v} {x} hv hx = alike-below 32 hv hx (and-lt 32 x (inverted v) hx (omega arith)) (λ i l z. omega (arith, bit-low i x v l hv, bit-lt i x))
 

@@ -60,7 +60,7 @@ flipped-other {x} {v} c n e =
 set-below : {x : ℕ} (i : ℕ) → x < 2 ^ 32 → bit i x ≡ 1 → i < 32
 set-below {x} i h o = ⊎-elim (λ (l : i < 32). l) (λ (l : 32 ≤ i). absurd (omega (arith, o, bit-high 32 i x h l))) (lt-or-ge i 32)
 
--- ---- each rule's two choices for a bit that it calls undefined: one operand's undefined bits are flipped, the other operand is held at a choice
+-- ---- one operand's undefined bits are flipped, the other operand is held at a choice
 module _ (f : ℕ → ℕ → ℕ) (i : ℕ) {x v y w : ℕ} (c : Choice x v) (d : Choice y w) where
   by-first : (bit i (f (c .word) (d .word)) ≡ bit i (f (flipped c .word) (d .word)) → ⊥) → ResultVaries f x v y w i
   by-first n = record { one = (c, d); other = (flipped c, d); differ = n }

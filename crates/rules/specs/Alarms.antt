@@ -48,7 +48,6 @@ pub data Claimed : Type 0 where
   shr : Claimed
   sar : Claimed
 
--- which operation each is
 unfoldable pub operationOf : Claimed → Operation
 operationOf and = And
 operationOf or = Or
