@@ -32,9 +32,9 @@ unfolding Agree
 alike-swapped a = record { shadow = a .shadow; first = a .second; second = a .first; agree = λ i z. sym (a .agree i z) }
 
 -- what agrees with the same number agrees
-pub alike-joined : {n v x y z : ℕ} → Alike n v x y → Alike n v x z → Alike n v y z
+pub alike-between : {n v x y z : ℕ} → Alike n v x y → Alike n v x z → Alike n v y z
 unfolding Agree
-alike-joined a b = record { shadow = a .shadow; first = a .second; second = b .second; agree = λ i z. sym (a .agree i z) ∙ b .agree i z }
+alike-between a b = record { shadow = a .shadow; first = a .second; second = b .second; agree = λ i z. sym (a .agree i z) ∙ b .agree i z }
 
 -- wholly undefined numbers agree
 pub alike-undefined : (n : ℕ) {x x′ : ℕ} → x < 2 ^ n → x′ < 2 ^ n → Alike n (2 ^ n - 1) x x′

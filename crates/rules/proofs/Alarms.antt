@@ -60,30 +60,33 @@ flipped-other {x} {v} c n e =
 set-below : {x : ℕ} (i : ℕ) → x < 2 ^ 32 → bit i x ≡ 1 → i < 32
 set-below {x} i h o = ⊎-elim (λ (l : i < 32). l) (λ (l : 32 ≤ i). absurd (omega (arith, o, bit-high 32 i x h l))) (lt-or-ge i 32)
 
--- ---- one operand's undefined bits are flipped, the other operand is held at a choice
-module _ (f : ℕ → ℕ → ℕ) (i : ℕ) {x v y w : ℕ} (c : Choice x v) (d : Choice y w) where
-  by-first : (bit i (f (c .word) (d .word)) ≡ bit i (f (flipped c .word) (d .word)) → ⊥) → ResultVaries f x v y w i
-  by-first n = record { one = (c, d); other = (flipped c, d); differ = n }
+-- ---- the two choices: the first operand's undefined bits are flipped, the second is held at a choice; or the other way round
+module _ (f : ℕ → ℕ → ℕ) (i : ℕ) {x v y w : ℕ} where
+  by-first : (c : Choice x v) (d : Choice y w) → (bit i (f (c .word) (d .word)) ≡ bit i (f (flipped c .word) (d .word)) → ⊥) → ResultVaries f x v y w i
+  by-first c d n = record { one = (c, d); other = (flipped c, d); differ = n }
 
-  by-second : (bit i (f (c .word) (d .word)) ≡ bit i (f (c .word) (flipped d .word)) → ⊥) → ResultVaries f x v y w i
-  by-second n = record { one = (c, d); other = (c, flipped d); differ = n }
+  exchanged : ResultVaries (λ b a. f a b) y w x v i → ResultVaries f x v y w i
+  exchanged t = record { one = (t .one .1, t .one .0); other = (t .other .1, t .other .0); differ = t .differ }
 
--- ---- AND, OR and XOR: the operand in which the bit is undefined is flipped, the other lets both values of the bit through
-either : (i v w : ℕ) → max (bit i v) (bit i w) ≡ 1 → (bit i v ≡ 1) ⊎ (bit i w ≡ 1)
-either i v w o = ⊎-elim (λ (z : bit i v ≡ 0). inr (omega (arith, o, z))) (λ (u : bit i v ≡ 1). inl u) (zero-or-one i v)
+-- ---- AND, OR and XOR: an operand in which the bit is undefined is flipped, the other lets both values of the bit through
+-- f, which the operation does to each two bits, lets both values through beside b
+abbrev Passes : (ℕ → ℕ → ℕ) → ℕ → Type 0
+Passes f b = (a : ℕ) → a < 2 → f a b ≡ f (1 - a) b → ⊥
 
-module _ (op f : ℕ → ℕ → ℕ) (bits : (i a b : ℕ) → bit i (op a b) ≡ f (bit i a) (bit i b)) (i : ℕ) {x v y w : ℕ} (c : Choice x v) (d : Choice y w) where
-  through-first : bit i v ≡ 1 → ((b : ℕ) → b < 2 → f b (bit i (d .word)) ≡ f (1 - b) (bit i (d .word)) → ⊥) → ResultVaries op x v y w i
-  through-first u n =
-      by-first op i c d
-      (λ s. n (bit i (c .word)) (bit-lt i (c .word))
-      (sym (bits i (c .word) (d .word)) ∙ s ∙ bits i (flipped c .word) (d .word) ∙ ap (λ (b : ℕ). f b (bit i (d .word))) (flipped-bit i c u)))
+passed : (op f : ℕ → ℕ → ℕ) → ((i a b : ℕ) → bit i (op a b) ≡ f (bit i a) (bit i b)) → (i : ℕ) {x v y w : ℕ} (c : Choice x v) (d : Choice y w)
+    → bit i v ≡ 1 → Passes f (bit i (d .word)) → ResultVaries op x v y w i
+passed op f bits i c d u n =
+    by-first op i c d
+    (λ s. n (bit i (c .word)) (bit-lt i (c .word))
+    (sym (bits i (c .word) (d .word)) ∙ s ∙ bits i (flipped c .word) (d .word) ∙ ap (λ (b : ℕ). f b (bit i (d .word))) (flipped-bit i c u)))
 
-  through-second : bit i w ≡ 1 → ((b : ℕ) → b < 2 → f (bit i (c .word)) b ≡ f (bit i (c .word)) (1 - b) → ⊥) → ResultVaries op x v y w i
-  through-second u n =
-      by-second op i c d
-      (λ s. n (bit i (d .word)) (bit-lt i (d .word))
-      (sym (bits i (c .word) (d .word)) ∙ s ∙ bits i (c .word) (flipped d .word) ∙ ap (f (bit i (c .word))) (flipped-bit i d u)))
+bitwise-varies : (op f : ℕ → ℕ → ℕ) → ((i a b : ℕ) → bit i (op a b) ≡ f (bit i a) (bit i b)) → (i : ℕ) {x v y w : ℕ} (c : Choice x v) (d : Choice y w)
+    → max (bit i v) (bit i w) ≡ 1 → Passes f (bit i (d .word)) → Passes (λ b a. f a b) (bit i (c .word)) → ResultVaries op x v y w i
+bitwise-varies op f bits i {x} {v} {y} {w} c d o n m =
+    ⊎-elim
+    (λ (z : bit i v ≡ 0). exchanged op i (passed (λ b a. op a b) (λ b a. f a b) (λ j b a. bits j a b) i d c (omega (arith, o, z)) m))
+    (λ (u : bit i v ≡ 1). passed op f bits i c d u n)
+    (zero-or-one i v)
 
 -- what AND's rule says of a bit that it calls undefined: it is undefined in one of the operands, and each operand's is 1 or can be
 and-parts : (i x v y w : ℕ) → bit i (andV false x v y w) ≡ 1 → (max (bit i v) (bit i w) ≡ 1) × (bit i (high x v) ≡ 1) × (bit i (high y w) ≡ 1)
@@ -100,19 +103,13 @@ module _ (i : ℕ) {x v y w : ℕ} (hx : x < 2 ^ 32) (hv : v < 2 ^ 32) (hy : y <
   unfolding greatest
   and-varies o =
       let t : (max (bit i v) (bit i w) ≡ 1) × (bit i (high x v) ≡ 1) × (bit i (high y w) ≡ 1) = and-parts i x v y w o in
-      ⊎-elim
-      (λ u. through-first andOf min bit-and i (itself hx hv) (greatest hy hw) u (λ b h s. omega (arith, s, t .2)))
-      (λ u. through-second andOf min bit-and i (greatest hx hv) (itself hy hw) u (λ b h s. omega (arith, s, t .1)))
-      (either i v w (t .0))
+      bitwise-varies andOf min bit-and i (greatest hx hv) (greatest hy hw) (t .0) (λ b h s. omega (arith, s, t .2)) (λ b h s. omega (arith, s, t .1))
 
   or-varies : bit i (orV false x v y w) ≡ 1 → ResultVaries orOf x v y w i
   unfolding least
   or-varies o =
       let t : (max (bit i v) (bit i w) ≡ 1) × (bit i (high (inverted x) v) ≡ 1) × (bit i (high (inverted y) w) ≡ 1) = and-parts i (inverted x) v (inverted y) w o in
-      ⊎-elim
-      (λ u. through-first orOf max bit-or i (itself hx hv) (least hy hw) u (λ b h s. omega (arith, s, low-clear y w hy hw (t .2))))
-      (λ u. through-second orOf max bit-or i (least hx hv) (itself hy hw) u (λ b h s. omega (arith, s, low-clear x v hx hv (t .1))))
-      (either i v w (t .0))
+      bitwise-varies orOf max bit-or i (least hx hv) (least hy hw) (t .0) (λ b h s. omega (arith, s, low-clear y w hy hw (t .2))) (λ b h s. omega (arith, s, low-clear x v hx hv (t .1)))
     where
       low-clear : (z u : ℕ) → z < 2 ^ 32 → u < 2 ^ 32 → bit i (high (inverted z) u) ≡ 1 → bit i (low z u) ≡ 0
       low-clear z u hz hu e =
@@ -122,10 +119,9 @@ module _ (i : ℕ) {x v y w : ℕ} (hx : x < 2 ^ 32) (hv : v < 2 ^ 32) (hy : y <
   xor-varies : bit i (xorV false x v y w) ≡ 1 → ResultVaries xorOf x v y w i
   unfolding itself
   xor-varies o =
-      ⊎-elim
-      (λ u. through-first xorOf differ bit-xor i (itself hx hv) (itself hy hw) u (λ b h s. omega (arith, s, differ-sum b (bit i y), differ-sum (1 - b) (bit i y), bit-lt i y)))
-      (λ u. through-second xorOf differ bit-xor i (itself hx hv) (itself hy hw) u (λ b h s. omega (arith, s, differ-sum (bit i x) b, differ-sum (bit i x) (1 - b), bit-lt i x)))
-      (either i v w (sym (bit-or i v w) ∙ o))
+      bitwise-varies xorOf differ bit-xor i (itself hx hv) (itself hy hw) (sym (bit-or i v w) ∙ o)
+      (λ b h s. omega (arith, s, differ-sum b (bit i y), differ-sum (1 - b) (bit i y), bit-lt i y))
+      (λ b h s. omega (arith, s, differ-sum (bit i x) b, differ-sum (bit i x) (1 - b), bit-lt i x))
 
 -- ---- a shift by a defined amount: the first operand is flipped, and its bits move as V does
 shift-varies : (f : ℕ → ℕ → ℕ) → ((y : ℕ) → Moves 32 (λ x. f x y)) → (i : ℕ) {x v y w : ℕ} → x < 2 ^ 32 → v < 2 ^ 32 → y < 2 ^ 32 → w ≡ 0 → bit i (shiftV f false x v y w) ≡ 1 → ResultVaries f x v y w i
@@ -166,52 +162,52 @@ eq-undefined same x v y w hx hv hy hw = go (eqb (apart x v y w) 0) (eqb (UifU v 
 -- its two choices: one word for both operands, and then one of them flipped
 module _ (i : ℕ) {x v y w : ℕ} (hx : x < 2 ^ 32) (hv : v < 2 ^ 32) (hy : y < 2 ^ 32) (hw : w < 2 ^ 32) where
   -- the word: what is defined in x, and y's bits elsewhere
-  joined : ℕ
-  joined = bitOr (low x v) (bitAnd y v)
+  common : ℕ
+  common = bitOr (low x v) (bitAnd y v)
 
-  joined-bit : (j : ℕ) → j < 32 → bit j joined ≡ max (min (bit j x) (1 - bit j v)) (min (bit j y) (bit j v))
-  unfolding joined
-  joined-bit j l = bit-or j (low x v) (bitAnd y v) ∙ ap₂ max (bit-low j x v l hv) (bit-and j y v)
+  common-bit : (j : ℕ) → j < 32 → bit j common ≡ max (min (bit j x) (1 - bit j v)) (min (bit j y) (bit j v))
+  unfolding common
+  common-bit j l = bit-or j (low x v) (bitAnd y v) ∙ ap₂ max (bit-low j x v l hv) (bit-and j y v)
 
-  joined-lt : joined < 2 ^ 32
-  unfolding joined
-  joined-lt = or-lt 32 (low x v) (bitAnd y v) (and-lt 32 x (inverted v) hx (omega arith)) (and-lt 32 y v hy hv)
+  common-lt : common < 2 ^ 32
+  unfolding common
+  common-lt = or-lt 32 (low x v) (bitAnd y v) (and-lt 32 x (inverted v) hx (omega arith)) (and-lt 32 y v hy hv)
 
-  first-joined : Choice x v
-  first-joined = record { word = joined; alike = alike-below 32 hv hx joined-lt (λ j l z. omega (arith, joined-bit j l, bit-lt j x)) }
+  first-common : Choice x v
+  first-common = record { word = common; alike = alike-below 32 hv hx common-lt (λ j l z. omega (arith, common-bit j l, bit-lt j x)) }
 
-  second-joined : Agree (UifU v w) x y → Choice y w
+  second-common : Agree (UifU v w) x y → Choice y w
   unfolding Agree
-  second-joined agree =
+  second-common agree =
       record {
-        word = joined;
+        word = common;
         alike =
-            alike-below 32 hw hy joined-lt
+            alike-below 32 hw hy common-lt
             (λ j l z.
             ⊎-elim
-            (λ (d : bit j v ≡ 0). omega (arith, joined-bit j l, agree j (bit-or j v w ∙ omega arith), bit-lt j x))
-            (λ (u : bit j v ≡ 1). omega (arith, joined-bit j l, bit-lt j y))
+            (λ (d : bit j v ≡ 0). omega (arith, common-bit j l, agree j (bit-or j v w ∙ omega arith), bit-lt j x))
+            (λ (u : bit j v ≡ 1). omega (arith, common-bit j l, bit-lt j y))
             (zero-or-one j v));
       }
 
   eq-varies : bit i (eqV false x v y w) ≡ 1 → ResultVaries eqOf x v y w i
-  unfolding first-joined second-joined
+  unfolding first-common second-common
   eq-varies o =
       ⊎-elim
       (λ t. vary (t .1) (ap (bit i) (sym (t .0)) ∙ o))
       (λ t. absurd (omega (arith, bit-zero i, ap (bit i) (sym (t .0)) ∙ o)))
       (eq-undefined false x v y w hx hv hy hw)
     where
-      parted : {a b : ℕ} → bit i 1 ≡ 1 → (a ≡ b → ⊥) → bit i (eqOf joined joined) ≡ bit i (eqOf a b) → ⊥
+      parted : {a b : ℕ} → bit i 1 ≡ 1 → (a ≡ b → ⊥) → bit i (eqOf common common) ≡ bit i (eqOf a b) → ⊥
       parted {a} {b} u n s =
-          omega (arith, u, bit-zero i, ap (λ (t : Bool). bit i (oneIf t)) (sym (eq-eqb joined joined refl)) ∙ s ∙ ap (λ (t : Bool). bit i (oneIf t)) (ne-eqb a b n))
+          omega (arith, u, bit-zero i, ap (λ (t : Bool). bit i (oneIf t)) (sym (eq-eqb common common refl)) ∙ s ∙ ap (λ (t : Bool). bit i (oneIf t)) (ne-eqb a b n))
 
       vary : Unsettled x v y w → bit i 1 ≡ 1 → ResultVaries eqOf x v y w i
       vary t u =
-          let d : Choice y w = second-joined (t .0) in
+          let d : Choice y w = second-common (t .0) in
           ⊎-elim
-          (λ (z : v ≡ 0). by-second eqOf i first-joined d (parted u (λ e. flipped-other d (λ m. t .1 (ap₂ bitOr z m)) (sym e))))
-          (λ (p : zero < v). by-first eqOf i first-joined d (parted u (flipped-other first-joined (λ z. omega arith))))
+          (λ (z : v ≡ 0). exchanged eqOf i (by-first (λ b a. eqOf a b) i d first-common (parted u (λ e. flipped-other d (λ m. t .1 (ap₂ bitOr z m)) (sym e)))))
+          (λ (p : zero < v). by-first eqOf i first-common d (parted u (flipped-other first-common (λ z. omega arith))))
           (eq-zero-or-pos v)
 
 -- ---- MOV: its operand, and the operand flipped

@@ -12,7 +12,7 @@ use Rattle.rules.specs.Actions.{addOf, subOf}
 use Rattle.rules.specs.Shadows.{UifU, Left, leftV, low, high, addV, subV}
 use Rattle.rules.specs.Agreement.{Agree, Alike, Sound, Within}
 use Rattle.rules.proofs.Bits.{bit-lt, zero-or-one, bit-or, bit-xor, differ-self, differ-none, bit-mod, low-suc, bits-equal, bit-not}
-use Rattle.rules.proofs.Agreement.{alike-below, alike-self, alike-swapped, alike-joined, alike-inverted, bit-low, alike-low, alike-high}
+use Rattle.rules.proofs.Agreement.{alike-below, alike-self, alike-swapped, alike-between, alike-inverted, bit-low, alike-low, alike-high}
 use Rattle.rules.proofs.Congruence.{wrapped-lt}
 use Rattle.rules.proofs.Carry.{Carries, add-carries, sub-carries, carries-alike, NoneMore, within-none}
 
@@ -73,7 +73,7 @@ below-high {v} {x} {x′} a =
 
 -- both agree with it in its defined bits, and so with one another
 alike-ends : {v x : ℕ} → v < 2 ^ 32 → x < 2 ^ 32 → Alike 32 v (low x v) (high x v)
-alike-ends hv hx = alike-joined (alike-low hv hx) (alike-high hv hx)
+alike-ends hv hx = alike-between (alike-low hv hx) (alike-high hv hx)
 
 -- words that agree in the defined bits have the same ends
 same-ends : {v x x′ : ℕ} → Alike 32 v x x′ → (low x v ≡ low x′ v) × (high x v ≡ high x′ v)
