@@ -14,10 +14,11 @@ use Rattle.rules.specs.declared.Operation.{Operation}
 use Rattle.image.specs.Format.{registers}
 use Rattle.image.specs.declared.Operand.{Operand}
 use Rattle.image.specs.declared.Width.{Width}
+use Rattle.image.specs.declared.Widening.{Widening}
 use Rattle.image.specs.declared.Instruction.the-variants.{Stop, Move, Compute, Load, Store, Jump, Emit, Mark}
 use Rattle.machine.specs.Machine.{undefinedByte, Parts, parts}
 use Rattle.machine.specs.Ranges.{allAddressable, loadedWhere, filled, storedWhere}
-use Rattle.machine.specs.Instructions.{operandData, addressOf, bytesOf, blocked, wayOn, output, outputsOf}
+use Rattle.machine.specs.Instructions.{operandData, addressOf, bytesOf, widened, blocked, wayOn, output, outputsOf}
 use Rattle.machine.specs.Steps.{operandV, sameRegister, withRegister, cleared, loadStep, storeStep, markOf, markStep, acted, undefinedAddress, undefinedCondition, unaddressableLoad, unaddressableStore, undefinedOutput, ifUndefined, ifBlocked, reportsOf}
 use Rattle.machine.specs.Lists.{outputSize, outputWords, entered, outputsEntered}
 use Rattle.machine.specs.Checker.{stepped}
@@ -61,8 +62,8 @@ mark-law c u addressable start size mark memV memA memV′ memA′ e v a k =
     }
 
 -- ---- loads and stores: V of a is checked and cleared, then the bytes
-pub loaded-register : (width : Width) (d a imm : ℕ) → FitsSome (Load width d a imm) → d < registers
-loaded-register width d a imm f = f .fitting .fits .0
+pub loaded-register : (width : Width) (widening : Widening) (d a imm : ℕ) → FitsSome (Load width widening d a imm) → d < registers
+loaded-register width widening d a imm f = f .fitting .fits .0
 
 pub accessed : (kind : ℕ) (width : Width) (a imm : ℕ) (regs memA : List ℕ) (c u : Counts) (regsV regsV′ l l₂ : List ℕ) (at : ℕ) (whole : Bool)
     → Reports (ifUndefined undefinedAddress (getD regsV a 0) ++ ifBlocked kind at (not whole)) c l u l₂ → regsV′ ≡ set regsV a 0
@@ -76,14 +77,15 @@ module _ (width : Width) (d a imm : ℕ) (c u w : Counts) (e : w ≡ moved (u .i
       → Reports (ifUndefined undefinedAddress (getD regsV a 0) ++ ifBlocked kind (addressOf regs a imm) (not (allAddressable memA (addressOf regs a imm) (bytesOf width)))) c l u l₂
   asked kind r = subst (λ (rs : _). Reports (ifUndefined undefinedAddress (getD regsV a 0) ++ rs) c l u l₂) (rw (r .bytes, r .place) refl) (r .reports)
 
-  pub load-law : (regs′ regsV′ : List ℕ) (x v : ℕ) → Accessed unaddressableLoad width a imm regs memA c regsV l at whole u regsV₁ l₂
-      → regs′ ≡ set regs d x → regsV′ ≡ set regsV₁ d v → x ≡ loadedWhere memA mem at (bytesOf width) → v ≡ loadedWhere memA memV at (bytesOf width)
-      → StepsParts (Load width d a imm) c (parts regs regsV mem memV memA) l w (parts regs′ regsV′ mem memV memA) l₂
+  pub load-law : (widening : Widening) (regs′ regsV′ : List ℕ) (x v : ℕ) → Accessed unaddressableLoad width a imm regs memA c regsV l at whole u regsV₁ l₂
+      → regs′ ≡ set regs d x → regsV′ ≡ set regsV₁ d v
+      → x ≡ widened widening (bytesOf width) (loadedWhere memA mem at (bytesOf width)) → v ≡ widened widening (bytesOf width) (loadedWhere memA memV at (bytesOf width))
+      → StepsParts (Load width widening d a imm) c (parts regs regsV mem memV memA) l w (parts regs′ regsV′ mem memV memA) l₂
   unfolding acted loadStep withRegister cleared reportsOf blocked wayOn outputsOf outputsEntered
-  load-law regs′ regsV′ x v r data′ shadow′ p q =
+  load-law widening regs′ regsV′ x v r data′ shadow′ p q =
       record {
         taken = λ outputs.
-            taken (Load width d a imm) _ _ c u w l l₂ outputs outputs (asked unaddressableLoad r) e (rw (data′, shadow′, p, q, r .clear, r .place) refl) refl;
+            taken (Load width widening d a imm) _ _ c u w l l₂ outputs outputs (asked unaddressableLoad r) e (rw (data′, shadow′, p, q, r .clear, r .place) refl) refl;
       }
 
   pub store-law : (mem′ memV′ : List ℕ) → Accessed unaddressableStore width a imm regs memA c regsV l at whole u regsV₁ l₂

@@ -89,9 +89,16 @@ pub fn step(
         Flat::EqLiteral { d, a, y } => on_literal(c, Operation::Eq, d, a, y, regs, shadows),
         Flat::LtuRegister { d, a, b } => on_register(c, Operation::Ltu, d, a, b, regs, shadows),
         Flat::LtuLiteral { d, a, y } => on_literal(c, Operation::Ltu, d, a, y, regs, shadows),
-        Flat::Load { d, a, width, imm } => step::load(
+        Flat::Load {
+            d,
+            a,
+            width,
+            widening,
+            imm,
+        } => step::load(
             c,
             width,
+            widening,
             d,
             a,
             imm,

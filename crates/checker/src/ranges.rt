@@ -1,15 +1,19 @@
 // Ranges of bytes: which are addressable, what is loaded from them, what is written to them. An access
 // whose bytes are all addressable has a quick way for each width; any other goes byte by byte.
+use image::Widening;
 use image::Width;
 use rules::bytes::byte;
 use rules::bytes::join4;
+use rules::bytes::swiden;
 use rules::bytes::zwiden;
 ghost use mathlib.Core.Path.{_≡_};
 ghost use mathlib.Core.Bool.{cond};
 ghost use Prim.Native.Nat.{_+_, _^_, _≤_, _<_};
 ghost use lib.ListN.{length, getD, set};
 ghost use Rattle.machine.specs.Ranges.{isAddressable, allAddressable, loaded, loadedWhere, filled, stored, storedWhere};
-ghost use Rattle.machine.specs.Instructions.{bytesOf};
+ghost use Rattle.machine.specs.Instructions.{bytesOf, widened};
+ghost use Rattle.machine.specs.Machine.{addressableMark};
+ghost use Rattle.rules.specs.Bytes.{joined};
 
 // A of an addressable byte, and of an unaddressable one; V of an undefined byte, and of a defined one.
 pub const ADDRESSABLE: u8 = 1;
@@ -20,18 +24,29 @@ pub const UNDEFINED: u8 = 255;
 
 pub const DEFINED: u8 = 0;
 
-// Four A bytes, all addressable.
-const ALL_FOUR: u32 = 0x0101_0101;
-
 // What an unaddressable byte loads as: its data, and its V.
 const BLOCKED_BYTE: u8 = 0;
 
+// How many bytes an access has.
 fn size_of(width: Width) -> usize
     ensures { λ r. ⌜ r ≡ bytesOf width ⌝ }
 {
     match width {
         Width::Byte => 1,
+        Width::Half => 2,
         Width::Word => 4,
+    }
+}
+
+// The bytes of an access, zero-widened.
+fn load_all(width: Width, s: &[u8], at: usize) -> u32
+    requires { ⌜ (at < 2 ^ 32) × (at + bytesOf width ≤ length (now s)) ⌝ }
+    ensures { λ r. ⌜ r ≡ loaded (now (s .entry)) at (bytesOf width) ⌝ }
+{
+    match width {
+        Width::Byte => join4(s[at], 0, 0, 0),
+        Width::Half => join4(s[at], s[at + 1], 0, 0),
+        Width::Word => join4(s[at], s[at + 1], s[at + 2], s[at + 3]),
     }
 }
 
@@ -45,14 +60,15 @@ fn is_addressable(a: &[u8], at: usize) -> bool
     a[at] == ADDRESSABLE
 }
 
-fn four_addressable(a: &[u8], at: usize) -> bool
-    requires { ⌜ at < 2 ^ 32 ⌝ }
-    ensures { λ r. ⌜ r ≡ allAddressable (now (a .entry)) at 4 ⌝ }
+// The A bytes of an access, all addressable, as a word.
+fn all_marked(width: Width) -> u32
+    ensures { λ r. ⌜ r ≡ joined (bytesOf width) (λ k. addressableMark) ⌝ }
 {
-    if a.len() < at + 4 {
-        return false;
+    match width {
+        Width::Byte => 0x01,
+        Width::Half => 0x0101,
+        Width::Word => 0x0101_0101,
     }
-    join4(a[at], a[at + 1], a[at + 2], a[at + 3]) == ALL_FOUR
 }
 
 // Whether every byte of an access is addressable.
@@ -60,38 +76,13 @@ pub fn all_addressable(width: Width, a: &[u8], at: usize) -> bool
     requires { ⌜ at < 2 ^ 32 ⌝ }
     ensures { λ r. ⌜ r ≡ allAddressable (now (a .entry)) at (bytesOf width) ⌝ }
 {
-    match width {
-        Width::Byte => is_addressable(a, at),
-        Width::Word => four_addressable(a, at),
+    if a.len() < at + size_of(width) {
+        return false;
     }
+    load_all(width, a, at) == all_marked(width)
 }
 
 // ---- what is loaded
-fn load1(s: &[u8], at: usize) -> u32
-    requires { ⌜ at + 1 ≤ length (now s) ⌝ }
-    ensures { λ r. ⌜ r ≡ loaded (now (s .entry)) at 1 ⌝ }
-{
-    zwiden(s[at])
-}
-
-fn load4(s: &[u8], at: usize) -> u32
-    requires { ⌜ (at < 2 ^ 32) × (at + 4 ≤ length (now s)) ⌝ }
-    ensures { λ r. ⌜ r ≡ loaded (now (s .entry)) at 4 ⌝ }
-{
-    join4(s[at], s[at + 1], s[at + 2], s[at + 3])
-}
-
-// The bytes of an access, zero-widened.
-fn load_all(width: Width, s: &[u8], at: usize) -> u32
-    requires { ⌜ (at < 2 ^ 32) × (at + bytesOf width ≤ length (now s)) ⌝ }
-    ensures { λ r. ⌜ r ≡ loaded (now (s .entry)) at (bytesOf width) ⌝ }
-{
-    match width {
-        Width::Byte => load1(s, at),
-        Width::Word => load4(s, at),
-    }
-}
-
 // The byte at an address, if it is addressable.
 fn byte_at(a: &[u8], s: &[u8], at: usize) -> u8
     requires { ⌜ length (now s) ≡ length (now a) ⌝ }
@@ -119,7 +110,7 @@ fn load_some(width: Width, a: &[u8], s: &[u8], at: usize) -> u32
 }
 
 // The same; whole: they are all addressable.
-pub fn load(whole: bool, width: Width, a: &[u8], s: &[u8], at: usize) -> u32
+fn load_bytes(whole: bool, width: Width, a: &[u8], s: &[u8], at: usize) -> u32
     requires { ⌜ (whole ≡ allAddressable (now a) at (bytesOf width)) × (at < 2 ^ 32) × (length (now s) ≡ length (now a)) ⌝ }
     ensures { λ r. ⌜ r ≡ loadedWhere (now (a .entry)) (now (s .entry)) at (bytesOf width) ⌝ }
 {
@@ -129,32 +120,43 @@ pub fn load(whole: bool, width: Width, a: &[u8], s: &[u8], at: usize) -> u32
     load_some(width, a, s, at)
 }
 
+fn widen(width: Width, widening: Widening, x: u32) -> u32
+    ensures { λ r. ⌜ r ≡ widened widening (bytesOf width) x ⌝ }
+{
+    match widening {
+        Widening::Zero => x,
+        Widening::Sign => swiden(size_of(width) as u32, x),
+    }
+}
+
+// The word that they make, data or V.
+pub fn load(whole: bool, width: Width, widening: Widening, a: &[u8], s: &[u8], at: usize) -> u32
+    requires { ⌜ (whole ≡ allAddressable (now a) at (bytesOf width)) × (at < 2 ^ 32) × (length (now s) ≡ length (now a)) ⌝ }
+    ensures { λ r. ⌜ r ≡ widened widening (bytesOf width) (loadedWhere (now (a .entry)) (now (s .entry)) at (bytesOf width)) ⌝ }
+{
+    widen(width, widening, load_bytes(whole, width, a, s, at))
+}
+
 // ---- what is written
-fn store1(x: u32, s: &mut [u8], at: usize)
-    requires { ⌜ at + 1 ≤ length (now s) ⌝ }
-    ensures { λ _. ⌜ now (s .exit) ≡ stored x (now (s .entry)) at 1 ⌝ }
-{
-    s[at] = byte(x, 0);
-}
-
-fn store4(x: u32, s: &mut [u8], at: usize)
-    requires { ⌜ (at < 2 ^ 32) × (at + 4 ≤ length (now s)) ⌝ }
-    ensures { λ _. ⌜ now (s .exit) ≡ stored x (now (s .entry)) at 4 ⌝ }
-{
-    s[at] = byte(x, 0);
-    s[at + 1] = byte(x, 1);
-    s[at + 2] = byte(x, 2);
-    s[at + 3] = byte(x, 3);
-}
-
 // The low bytes of x, to the bytes of an access.
 fn store_all(width: Width, x: u32, s: &mut [u8], at: usize)
     requires { ⌜ (at < 2 ^ 32) × (at + bytesOf width ≤ length (now s)) ⌝ }
     ensures { λ _. ⌜ now (s .exit) ≡ stored x (now (s .entry)) at (bytesOf width) ⌝ }
 {
     match width {
-        Width::Byte => store1(x, s, at),
-        Width::Word => store4(x, s, at),
+        Width::Byte => {
+            s[at] = byte(x, 0);
+        }
+        Width::Half => {
+            s[at] = byte(x, 0);
+            s[at + 1] = byte(x, 1);
+        }
+        Width::Word => {
+            s[at] = byte(x, 0);
+            s[at + 1] = byte(x, 1);
+            s[at + 2] = byte(x, 2);
+            s[at + 3] = byte(x, 3);
+        }
     }
 }
 

@@ -7,6 +7,7 @@ use super::kinds;
 use super::lists;
 use super::ranges;
 use image::Operand;
+use image::Widening;
 use image::Width;
 use rules::Data;
 use rules::Operation;
@@ -180,6 +181,7 @@ pub fn compute(
 pub fn load(
     c: Counts,
     width: Width,
+    widening: Widening,
     d: u8,
     a: u8,
     imm: u32,
@@ -190,8 +192,8 @@ pub fn load(
     abits: &[u8],
     reports: &mut [u32],
 ) -> Counts
-    requires { ⌜ StepRoom c × FitsSome (Load width d a imm) × Sizes (length (now abits)) (now mem) (now vbits) (now abits) ⌝ }
-    ensures { λ t. ⌜ StepsParts (Load width d a imm) c (parts (now (regs .entry)) (now (shadows .entry)) (now (mem .entry)) (now (vbits .entry)) (now (abits .entry))) (now (reports .entry)) t (parts (now (regs .exit)) (now (shadows .exit)) (now (mem .entry)) (now (vbits .entry)) (now (abits .entry))) (now (reports .exit)) ⌝ }
+    requires { ⌜ StepRoom c × FitsSome (Load width widening d a imm) × Sizes (length (now abits)) (now mem) (now vbits) (now abits) ⌝ }
+    ensures { λ t. ⌜ StepsParts (Load width widening d a imm) c (parts (now (regs .entry)) (now (shadows .entry)) (now (mem .entry)) (now (vbits .entry)) (now (abits .entry))) (now (reports .entry)) t (parts (now (regs .exit)) (now (shadows .exit)) (now (mem .entry)) (now (vbits .entry)) (now (abits .entry))) (now (reports .exit)) ⌝ }
 {
     let found = checked(
         c,
@@ -204,8 +206,8 @@ pub fn load(
         abits,
         reports,
     );
-    let x = Data(ranges::load(found.whole, width, abits, mem, found.at));
-    let v = Shadow(ranges::load(found.whole, width, abits, vbits, found.at));
+    let x = Data(ranges::load(found.whole, width, widening, abits, mem, found.at));
+    let v = Shadow(ranges::load(found.whole, width, widening, abits, vbits, found.at));
     set_register(d, x, v, regs, shadows);
     counting::next(found.counts)
 }

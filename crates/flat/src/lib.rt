@@ -3,6 +3,7 @@
 // which instruction each case is. Of the registers: plain words.
 use image::Instruction;
 use image::Operand;
+use image::Widening;
 use image::Width;
 use rules::Data;
 use rules::Operation;
@@ -137,6 +138,7 @@ pub enum Flat {
         d: u8,
         a: u8,
         width: Width,
+        widening: Widening,
         imm: u32,
     },
     Store {
@@ -222,10 +224,17 @@ pub fn flatten(i: Instruction) -> Flat
         Instruction::Stop => Flat::Stop,
         Instruction::Move { d, b } => move_of(d, b),
         Instruction::Compute { op, d, a, b } => compute_of(op, d, a, b),
-        Instruction::Load { width, d, a, imm } => Flat::Load {
+        Instruction::Load {
+            width,
+            widening,
+            d,
+            a,
+            imm,
+        } => Flat::Load {
             d: d,
             a: a,
             width: width,
+            widening: widening,
             imm: imm,
         },
         Instruction::Store { width, d, a, imm } => Flat::Store {

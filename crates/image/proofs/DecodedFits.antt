@@ -42,7 +42,7 @@ built-fits (Computes op) d a b imm n m l h =
     let e2 = both (isRegister d && isRegister a) (operandOk b imm) h in
     let e1 = both (isRegister d) (isRegister a) (e2 .0) in
     (ltb-true _ _ (e1 .0), ltb-true _ _ (e1 .1), operand-fits b imm l (e2 .1))
-built-fits (Loads width) d a b imm n m l h = let e = access-holds d a b h in (e .0, e .1, l)
+built-fits (Loads width widening) d a b imm n m l h = let e = access-holds d a b h in (e .0, e .1, l)
 built-fits (Stores width) d a b imm n m l h = let e = access-holds d a b h in (e .0, e .1, l)
 built-fits Jumps d a b imm n m l h =
     let e = all-four (eqb d 0) (isRegister a) (eqb b 0) (ltb imm n) h in

@@ -18,7 +18,9 @@ use Rattle.image.specs.Accepted.{OperandFits, Fits}
 use Rattle.image.specs.declared.Operand.{Operand}
 use Rattle.image.specs.declared.Operand.the-variants.{Register, Literal}
 use Rattle.image.specs.declared.Width.{Width}
-use Rattle.image.specs.declared.Width.the-variants.{Byte, Word}
+use Rattle.image.specs.declared.Width.the-variants.{Byte, Half, Word}
+use Rattle.image.specs.declared.Widening.{Widening}
+use Rattle.image.specs.declared.Widening.the-variants.{Zero, Sign}
 use Rattle.image.specs.declared.Instruction.{Instruction}
 use Rattle.image.specs.declared.Instruction.the-variants.{Stop, Move, Compute, Load, Store, Jump, Emit, Mark}
 use Rattle.image.specs.declared.rows.Row.{Row}
@@ -57,7 +59,7 @@ built-back Moves d a b imm n m h =
 built-back (Computes op) d a b imm n m h =
     let o = operand-back b imm (both (isRegister d && isRegister a) (operandOk b imm) h .1) in
     rw (o .0, o .1)
-built-back (Loads width) d a b imm n m h = rw (access-holds d a b h .2)
+built-back (Loads width widening) d a b imm n m h = rw (access-holds d a b h .2)
 built-back (Stores width) d a b imm n m h = rw (access-holds d a b h .2)
 built-back Jumps d a b imm n m h =
     let e = all-four (eqb d 0) (isRegister a) (eqb b 0) (ltb imm n) h in
@@ -111,14 +113,19 @@ row-of-op Sar = refl
 row-of-op Eq = refl
 row-of-op Ltu = refl
 
-row-of-load : (width : Width) → rowOf (loadOp width) ≡ Loads width
+row-of-load : (width : Width) (widening : Widening) → loadOp width widening < length rows → rowOf (loadOp width widening) ≡ Loads width widening
 unfolding rowOf loadOp
-row-of-load Byte = refl
-row-of-load Word = refl
+row-of-load Byte Zero h = refl
+row-of-load Half Zero h = refl
+row-of-load Word Zero h = refl
+row-of-load Byte Sign h = refl
+row-of-load Half Sign h = refl
+row-of-load Word Sign h = absurd (omega arith)
 
 row-of-store : (width : Width) → rowOf (storeOp width) ≡ Stores width
 unfolding rowOf storeOp
 row-of-store Byte = refl
+row-of-store Half = refl
 row-of-store Word = refl
 
 row-of-mark : (addressable : Bool) → rowOf (markOp addressable) ≡ Marks addressable
@@ -133,26 +140,26 @@ operand-there (Literal x) h = (refl, refl)
 range-there : (start size : ℕ) → start < 2 ^ 16 → (rangeStart (start + 2 ^ 16 * size) ≡ start) × (rangeLength (start + 2 ^ 16 * size) ≡ size)
 range-there start size l = (omega arith, omega arith)
 
-there : (v : Instruction) (i n m : ℕ) → StartFits v → Fits n m v → decodedFrom (encoded v) i n m ≡ Valid v
+there : (v : Instruction) (i n m : ℕ) → encoded v .op < length rows → StartFits v → Fits n m v → decodedFrom (encoded v) i n m ≡ Valid v
 unfolding decoded rowOf fieldsOk built encoded
-there Stop i n m l h = refl
-there (Move d b) i n m l h =
+there Stop i n m g l h = refl
+there (Move d b) i n m g l h =
     let o = operand-there b (h .1) in
     rw (lt-ltb d registers (h .0), o .0, o .1)
-there (Compute op d a b) i n m l h =
+there (Compute op d a b) i n m g l h =
     let o = operand-there b (h .2) in
     rw (row-of-op op, lt-ltb d registers (h .0), lt-ltb a registers (h .1), o .0, o .1)
-there (Load width d a imm) i n m l h = rw (row-of-load width, lt-ltb d registers (h .0), lt-ltb a registers (h .1))
-there (Store width d a imm) i n m l h = rw (row-of-store width, lt-ltb d registers (h .0), lt-ltb a registers (h .1))
-there (Jump a target) i n m l h = rw (lt-ltb a registers (h .0), lt-ltb target n (h .1))
-there (Emit a port) i n m l h = rw (lt-ltb a registers (h .0), lt-ltb port ports (h .1))
-there (Mark addressable start size) i n m l h =
+there (Load width widening d a imm) i n m g l h = rw (row-of-load width widening g, lt-ltb d registers (h .0), lt-ltb a registers (h .1))
+there (Store width d a imm) i n m g l h = rw (row-of-store width, lt-ltb d registers (h .0), lt-ltb a registers (h .1))
+there (Jump a target) i n m g l h = rw (lt-ltb a registers (h .0), lt-ltb target n (h .1))
+there (Emit a port) i n m g l h = rw (lt-ltb a registers (h .0), lt-ltb port ports (h .1))
+there (Mark addressable start size) i n m g l h =
     let r = range-there start size l in
     rw (row-of-mark addressable, r .0, r .1, le-leb 1 size (h .0), le-leb (start + size) m (h .1))
 
 pub encoding-decodes : (code : List ℕ) (i n m : ℕ) (v : Instruction) → StandsAt code i n m v → decodeAt code i n m ≡ Valid v
 unfolding decodeAt
-encoding-decodes code i n m v s = rw (lt-ltb i (length code / instructionSize) (s .there)) (ap (λ (f : Fields). decodedFrom f i n m) (s .same) ∙ there v i n m (s .start) (s .fits))
+encoding-decodes code i n m v s = rw (lt-ltb i (length code / instructionSize) (s .there)) (ap (λ (f : Fields). decodedFrom f i n m) (s .same) ∙ there v i n m (s .row) (s .start) (s .fits))
 
 -- ---- the promise of `decode` by the fields follows from its equation, and the equation from it
 start-fits : (row : Row) (d a b imm : ℕ) → StartFits (built row d a b imm)
@@ -160,29 +167,33 @@ unfolding built
 start-fits Stops d a b imm = tt
 start-fits Moves d a b imm = tt
 start-fits (Computes op) d a b imm = tt
-start-fits (Loads width) d a b imm = tt
+start-fits (Loads width widening) d a b imm = tt
 start-fits (Stores width) d a b imm = tt
 start-fits Jumps d a b imm = tt
 start-fits Emits d a b imm = tt
 start-fits (Marks addressable) d a b imm = omega arith
 start-fits Missing d a b imm = tt
 
--- its eight bytes are there, and a start is in imm's low half
+-- its eight bytes are there, its op has a row, and a start is in imm's low half
 abbrev Within : List ℕ → ℕ → Decoded → Type 0
-Within code i (Valid v) = (i < length code / instructionSize) × StartFits v
+Within code i (Valid v) = (i < length code / instructionSize) × (fieldsAt code i .op < length rows) × StartFits v
 Within code i (Fault k) = Unit
 
-decoded-within : (code : List ℕ) (i n m : ℕ) (v : Instruction) → decodeAt code i n m ≡ Valid v → (i < length code / instructionSize) × StartFits v
+decoded-within : (code : List ℕ) (i n m : ℕ) (v : Instruction) → decodeAt code i n m ≡ Valid v → Within code i (Valid v)
 decoded-within code i n m v h =
     let f = fieldsAt code i in
-    subst (Within code i) h (of-answer (Within code i) n m code i (λ l k. (l, start-fits (rowOf (f .op)) (f .d) (f .a) (f .b) (f .imm))) tt)
+    subst (Within code i) h
+    (of-answer (Within code i) n m code i
+    (λ l k. (l, has-row (f .op) (f .d) (f .a) (f .b) (f .imm) n m k, start-fits (rowOf (f .op)) (f .d) (f .a) (f .b) (f .imm)))
+    tt)
 
 module _ (code : List ℕ) (i n m : ℕ) (b : Bytes code) where
   pub decoded-reads : (r : Decoded) → r ≡ decodeAt code i n m → ReadsAs code i n m r
   unfolding ReadsAs
   decoded-reads (Valid v) e =
       let w = decoded-within code i n m v (sym e) in
-      record { there = w .0; same = sym (decoded-encoding code i n m v (sym e)); fits = decoded-fits code i n m v b (sym e); start = w .1 }
+      let same = sym (decoded-encoding code i n m v (sym e)) in
+      record { there = w .0; same = same; row = subst (λ (f : Fields). f .op < length rows) same (w .1); fits = decoded-fits code i n m v b (sym e); start = w .2 }
   decoded-reads (Fault k) e = (fault-place code i n m k (sym e), λ v s. never (encoding-decodes code i n m v s) e)
     where
       never : {v : Instruction} → decodeAt code i n m ≡ Valid v → Fault k ≡ decodeAt code i n m → ⊥

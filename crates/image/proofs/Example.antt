@@ -9,6 +9,7 @@ use Rattle.image.specs.Refusals.{accepted, firstFault, instructionOk, co
 use Rattle.image.specs.Example.{example}
 use Rattle.image.specs.declared.Operand.the-variants.{Literal}
 use Rattle.image.specs.declared.Width.the-variants.{Word}
+use Rattle.image.specs.declared.Widening.the-variants.{Zero}
 use Rattle.image.specs.declared.Instruction.the-variants.{Stop, Move, Load, Emit}
 use Rattle.image.specs.declared.Decoded.the-variants.{Valid}
 
@@ -20,7 +21,7 @@ unfolding joined nthWord rowOf fieldsOk built decoded decodeAt regionAt endBefor
 example-header = refl
 
 pub example-code : (decodeAt (codePart example 4) 0 4 16 ≡ Valid (Move 0 (Literal (record { 0 = 8 }))))
-    × (decodeAt (codePart example 4) 1 4 16 ≡ Valid (Load Word 1 0 0))
+    × (decodeAt (codePart example 4) 1 4 16 ≡ Valid (Load Word Zero 1 0 0))
     × (decodeAt (codePart example 4) 2 4 16 ≡ Valid (Emit 1 2))
     × (decodeAt (codePart example 4) 3 4 16 ≡ Valid Stop)
 unfolding joined nthWord rowOf fieldsOk built decoded decodeAt

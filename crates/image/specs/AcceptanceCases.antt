@@ -1,5 +1,5 @@
 -- Which small images are accepted, and with which refusal the others are not, worked out by hand from document 01 (When the bench says
--- no): each number by itself, two at once, the lowest of several indices, and the edges. proofs/AcceptanceCases.antt says that the
+-- no) and 02, L1: each number by itself, two at once, the lowest of several indices, and the edges. proofs/AcceptanceCases.antt says that the
 -- definitions give them.
 use Prim.Native.Nat.{ℕ}
 use mathlib.Core.List.{List, [], _∷_, _++_}
@@ -46,9 +46,9 @@ fault3 s = set s 5 0x10
 abbrev fault4 : List ℕ → List ℕ
 fault4 s = set s 28 93
 
--- instruction 1 has op 21
+-- instruction 1 has op 25
 abbrev fault5 : List ℕ → List ℕ
-fault5 s = set s 40 21
+fault5 s = set s 40 25
 
 -- region 0 has kind 3
 abbrev fault6 : List ℕ → List ℕ
@@ -57,6 +57,10 @@ fault6 s = set s 64 3
 -- region 1 has 1 byte: the filled sum is 2
 abbrev fault7 : List ℕ → List ℕ
 fault7 s = set s 72 1
+
+-- instruction 1 has these fields, and imm 2
+abbrev withFields : (op d a b : ℕ) → List ℕ
+withFields op d a b = set (set (set (set base 40 op) 41 d) 42 a) 43 b
 
 -- ---- the cases
 pub record RefusalCase : Type 0 where
@@ -125,19 +129,44 @@ refusalCases =
     ∷ refusalCase (set base 20 57) 4 0
     ∷ refusalCase (take 94 base) 4 0
     ∷ refusalCase (base ++ 0 ∷ []) 4 0
-    -- 5: instruction 0 with op 21; EMIT to port 8; STOP with d 1
-    ∷ refusalCase (set base 32 21) 5 0
+    -- 5: instruction 0 with op 25; EMIT to port 8; STOP with d 1
+    ∷ refusalCase (set base 32 25) 5 0
     ∷ refusalCase (set base 44 8) 5 1
     ∷ refusalCase (set base 49 1) 5 2
     -- two and three of these: the lowest index
     ∷ refusalCase (set (set base 44 8) 49 1) 5 1
-    ∷ refusalCase (set (set (set base 32 21) 44 8) 49 1) 5 0
+    ∷ refusalCase (set (set (set base 32 25) 44 8) 49 1) 5 0
     -- JNZ 1,2, which is accepted, and JNZ 1,3: N is 3
     ∷ refusalCase (set base 40 17) 0 0
     ∷ refusalCase (set (set base 40 17) 44 3) 5 1
     -- OPEN from 6 on of 2 bytes, which is accepted, and of 3: M is 8
     ∷ refusalCase (set (set (set base 48 19) 52 6) 54 2) 0 0
     ∷ refusalCase (set (set (set base 48 19) 52 6) 54 3) 5 2
+    -- ops 21 to 24, LD16, LDS8, LDS16 and ST16, with any two registers and any imm; op 25 has no row, nor has 255
+    ∷ refusalCase (withFields 21 0 1 0) 0 0
+    ∷ refusalCase (withFields 22 15 0 0) 0 0
+    ∷ refusalCase (withFields 23 0 15 0) 0 0
+    ∷ refusalCase (withFields 24 15 15 0) 0 0
+    ∷ refusalCase (set (withFields 24 2 1 0) 47 0xFF) 0 0
+    ∷ refusalCase (withFields 25 0 1 0) 5 1
+    ∷ refusalCase (withFields 255 0 1 0) 5 1
+    -- each of the four with b 1, with b 255, which is no literal here, with d 16 and with a 16
+    ∷ refusalCase (withFields 21 0 1 1) 5 1
+    ∷ refusalCase (withFields 22 0 1 1) 5 1
+    ∷ refusalCase (withFields 23 0 1 1) 5 1
+    ∷ refusalCase (withFields 24 0 1 1) 5 1
+    ∷ refusalCase (withFields 21 0 1 255) 5 1
+    ∷ refusalCase (withFields 22 0 1 255) 5 1
+    ∷ refusalCase (withFields 23 0 1 255) 5 1
+    ∷ refusalCase (withFields 24 0 1 255) 5 1
+    ∷ refusalCase (withFields 21 16 1 0) 5 1
+    ∷ refusalCase (withFields 22 16 1 0) 5 1
+    ∷ refusalCase (withFields 23 16 1 0) 5 1
+    ∷ refusalCase (withFields 24 16 1 0) 5 1
+    ∷ refusalCase (withFields 21 0 16 0) 5 1
+    ∷ refusalCase (withFields 22 0 16 0) 5 1
+    ∷ refusalCase (withFields 23 0 16 0) 5 1
+    ∷ refusalCase (withFields 24 0 16 0) 5 1
     -- 6: region 0 of no bytes; of kind 0
     ∷ refusalCase (set base 60 0) 6 0
     ∷ refusalCase (set base 64 0) 6 0

@@ -59,7 +59,7 @@ abbrev pub Fits : (n m : ℕ) → Instruction → Type 0
 Fits n m Stop = Unit
 Fits n m (Move d b) = (d < registers) × OperandFits b
 Fits n m (Compute op d a b) = (d < registers) × (a < registers) × OperandFits b
-Fits n m (Load width d a imm) = (d < registers) × (a < registers) × (imm < 2 ^ 32)
+Fits n m (Load width widening d a imm) = (d < registers) × (a < registers) × (imm < 2 ^ 32)
 Fits n m (Store width d a imm) = (d < registers) × (a < registers) × (imm < 2 ^ 32)
 Fits n m (Jump a target) = (a < registers) × (target < n)
 Fits n m (Emit a port) = (a < registers) × (port < ports)

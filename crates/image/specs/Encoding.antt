@@ -9,12 +9,14 @@ use lib.ListN.{length}
 use Rattle.rules.specs.declared.Operation.{Operation}
 use Rattle.rules.specs.declared.Operation.the-variants.{Add, Sub, Mul, And, Or, Xor, Shl, Shr, Sar, Eq, Ltu}
 use Rattle.image.specs.Format.{instructionSize}
-use Rattle.image.specs.Rows.{literalMark, Fields, fieldsAt}
+use Rattle.image.specs.Rows.{rows, literalMark, Fields, fieldsAt}
 use Rattle.image.specs.Accepted.{Fits}
 use Rattle.image.specs.declared.Operand.{Operand}
 use Rattle.image.specs.declared.Operand.the-variants.{Register, Literal}
 use Rattle.image.specs.declared.Width.{Width}
-use Rattle.image.specs.declared.Width.the-variants.{Byte, Word}
+use Rattle.image.specs.declared.Width.the-variants.{Byte, Half, Word}
+use Rattle.image.specs.declared.Widening.{Widening}
+use Rattle.image.specs.declared.Widening.the-variants.{Zero, Sign}
 use Rattle.image.specs.declared.Instruction.{Instruction}
 use Rattle.image.specs.declared.Instruction.the-variants.{Stop, Move, Compute, Load, Store, Jump, Emit, Mark}
 use Rattle.image.specs.declared.Decoded.{Decoded}
@@ -36,13 +38,19 @@ opOf Sar = 10
 opOf Eq = 11
 opOf Ltu = 12
 
-unfoldable pub loadOp : Width → ℕ
-loadOp Byte = 13
-loadOp Word = 14
+-- A word is not widened, and has no signed load: in the place of its op stands a number without a row.
+unfoldable pub loadOp : Width → Widening → ℕ
+loadOp Byte Zero = 13
+loadOp Word Zero = 14
+loadOp Half Zero = 21
+loadOp Byte Sign = 22
+loadOp Half Sign = 23
+loadOp Word Sign = length rows
 
 unfoldable pub storeOp : Width → ℕ
 storeOp Byte = 15
 storeOp Word = 16
+storeOp Half = 24
 
 -- OPEN and CLOSE
 unfoldable pub markOp : Bool → ℕ
@@ -62,7 +70,7 @@ unfoldable pub encoded : Instruction → Fields
 encoded Stop = fields 0 0 0 0 0
 encoded (Move d b) = fields 1 d 0 (operandB b) (operandImm b)
 encoded (Compute op d a b) = fields (opOf op) d a (operandB b) (operandImm b)
-encoded (Load width d a imm) = fields (loadOp width) d a 0 imm
+encoded (Load width widening d a imm) = fields (loadOp width widening) d a 0 imm
 encoded (Store width d a imm) = fields (storeOp width) d a 0 imm
 encoded (Jump a target) = fields 17 0 a 0 target
 encoded (Emit a port) = fields 18 0 a 0 port
@@ -74,16 +82,17 @@ abbrev pub StartFits : Instruction → Type 0
 StartFits Stop = Unit
 StartFits (Move d b) = Unit
 StartFits (Compute op d a b) = Unit
-StartFits (Load width d a imm) = Unit
+StartFits (Load width widening d a imm) = Unit
 StartFits (Store width d a imm) = Unit
 StartFits (Jump a target) = Unit
 StartFits (Emit a port) = Unit
 StartFits (Mark addressable start size) = start < 2 ^ 16
 
--- the eight bytes at index i of the code are there, they are the instruction's fields, and these are in range
+-- the eight bytes at index i of the code are there, they are the instruction's fields, its op has a row, and the others are in range
 pub record StandsAt (code : List ℕ) (i n m : ℕ) (instruction : Instruction) : Type 0 where
   pub there : i < length code / instructionSize
   pub same : fieldsAt code i ≡ encoded instruction
+  pub row : encoded instruction .op < length rows
   pub fits : Fits n m instruction
   pub start : StartFits instruction
 

@@ -1,4 +1,4 @@
--- The table of instructions (01, What a card holds): the row of each op, which fields keep it, and the instruction that they make.
+-- The table of instructions (01, What a card holds; ops 21 to 24: 02, L1): the row of each op, which fields keep it, and the instruction that they make.
 use Prim.Native.Nat.{ℕ, _+_, _*_, _/_, _%_, _^_}
 use mathlib.Core.Bool.{Bool, true, false, cond, _&&_, _||_}
 use mathlib.Core.List.{List, [], _∷_}
@@ -9,7 +9,8 @@ use Rattle.image.specs.Words.{nthWord}
 use Rattle.image.specs.Format.{instructionSize, registers, ports}
 use Rattle.image.specs.declared.Operand.{Operand}
 use Rattle.image.specs.declared.Operand.the-variants.{Register, Literal}
-use Rattle.image.specs.declared.Width.the-variants.{Byte, Word}
+use Rattle.image.specs.declared.Width.the-variants.{Byte, Half, Word}
+use Rattle.image.specs.declared.Widening.the-variants.{Zero, Sign}
 use Rattle.image.specs.declared.Instruction.{Instruction}
 use Rattle.image.specs.declared.Instruction.the-variants.{Stop, Move, Compute, Load, Store, Jump, Emit, Mark}
 use Rattle.image.specs.declared.rows.Row.{Row}
@@ -33,14 +34,18 @@ rows =
     ∷ Computes Sar
     ∷ Computes Eq
     ∷ Computes Ltu
-    ∷ Loads Byte
-    ∷ Loads Word
+    ∷ Loads Byte Zero
+    ∷ Loads Word Zero
     ∷ Stores Byte
     ∷ Stores Word
     ∷ Jumps
     ∷ Emits
     ∷ Marks true
     ∷ Marks false
+    ∷ Loads Half Zero
+    ∷ Loads Byte Sign
+    ∷ Loads Half Sign
+    ∷ Stores Half
     ∷ []
 
 unfoldable pub rowOf : ℕ → Row
@@ -72,7 +77,7 @@ unfoldable pub fieldsOk : Row → (d a b imm n m : ℕ) → Bool
 fieldsOk Stops d a b imm n m = eqb d 0 && eqb a 0 && eqb b 0 && eqb imm 0
 fieldsOk Moves d a b imm n m = isRegister d && eqb a 0 && operandOk b imm
 fieldsOk (Computes op) d a b imm n m = isRegister d && isRegister a && operandOk b imm
-fieldsOk (Loads width) d a b imm n m = isRegister d && isRegister a && eqb b 0
+fieldsOk (Loads width widening) d a b imm n m = isRegister d && isRegister a && eqb b 0
 fieldsOk (Stores width) d a b imm n m = isRegister d && isRegister a && eqb b 0
 fieldsOk Jumps d a b imm n m = eqb d 0 && isRegister a && eqb b 0 && ltb imm n
 fieldsOk Emits d a b imm n m = eqb d 0 && isRegister a && eqb b 0 && ltb imm ports
@@ -87,7 +92,7 @@ unfoldable pub built : Row → (d a b imm : ℕ) → Instruction
 built Stops d a b imm = Stop
 built Moves d a b imm = Move d (operandOf b imm)
 built (Computes op) d a b imm = Compute op d a (operandOf b imm)
-built (Loads width) d a b imm = Load width d a imm
+built (Loads width widening) d a b imm = Load width widening d a imm
 built (Stores width) d a b imm = Store width d a imm
 built Jumps d a b imm = Jump a imm
 built Emits d a b imm = Emit a imm

@@ -25,7 +25,14 @@ pub enum Operand {
 // How much of memory a load or store moves.
 pub enum Width {
     Byte,
+    Half,
     Word,
+}
+
+// What a load puts above the bytes that it moves: zeros, or copies of their top bit.
+pub enum Widening {
+    Zero,
+    Sign,
 }
 
 // A decoded instruction. d, a and b are as in document 01's table; OPEN and CLOSE are one case that
@@ -44,6 +51,7 @@ pub enum Instruction {
     },
     Load {
         width: Width,
+        widening: Widening,
         d: u8,
         a: u8,
         imm: u32,

@@ -4,6 +4,7 @@ use super::Decoded;
 use super::Instruction;
 use super::Operand;
 use super::Operation;
+use super::Widening;
 use super::Width;
 use super::format;
 use super::format::INSTRUCTION;
@@ -18,7 +19,7 @@ enum Row {
     Stops,
     Moves,
     Computes(Operation),
-    Loads(Width),
+    Loads(Width, Widening),
     Stores(Width),
     Jumps,
     Emits,
@@ -27,7 +28,7 @@ enum Row {
 }
 
 // How many ops there are.
-const OPS: usize = 21;
+const OPS: usize = 25;
 
 // The row of op 0, of op 1, ..
 const ROWS: [Row; OPS] = [
@@ -44,14 +45,18 @@ const ROWS: [Row; OPS] = [
     Row::Computes(Operation::Sar),
     Row::Computes(Operation::Eq),
     Row::Computes(Operation::Ltu),
-    Row::Loads(Width::Byte),
-    Row::Loads(Width::Word),
+    Row::Loads(Width::Byte, Widening::Zero),
+    Row::Loads(Width::Word, Widening::Zero),
     Row::Stores(Width::Byte),
     Row::Stores(Width::Word),
     Row::Jumps,
     Row::Emits,
     Row::Marks(true),
     Row::Marks(false),
+    Row::Loads(Width::Half, Widening::Zero),
+    Row::Loads(Width::Byte, Widening::Sign),
+    Row::Loads(Width::Half, Widening::Sign),
+    Row::Stores(Width::Half),
 ];
 
 const REGISTERS: u8 = format::REGISTERS as u8;
@@ -91,7 +96,7 @@ fn fields_ok(row: Row, d: u8, a: u8, b: u8, imm: u32, n: u32, m: u32) -> bool
         Row::Stops => (d == 0) & (a == 0) & (b == 0) & (imm == 0),
         Row::Moves => (d < REGISTERS) & (a == 0) & operand_ok(b, imm),
         Row::Computes(_) => (d < REGISTERS) & (a < REGISTERS) & operand_ok(b, imm),
-        Row::Loads(_) => (d < REGISTERS) & (a < REGISTERS) & (b == 0),
+        Row::Loads(_, _) => (d < REGISTERS) & (a < REGISTERS) & (b == 0),
         Row::Stores(_) => (d < REGISTERS) & (a < REGISTERS) & (b == 0),
         Row::Jumps => (d == 0) & (a < REGISTERS) & (b == 0) & (imm < n),
         Row::Emits => (d == 0) & (a < REGISTERS) & (b == 0) & (imm < PORTS),
@@ -126,8 +131,9 @@ fn build(row: Row, d: u8, a: u8, b: u8, imm: u32) -> Instruction
             a: a,
             b: operand_of(b, imm),
         },
-        Row::Loads(width) => Instruction::Load {
+        Row::Loads(width, widening) => Instruction::Load {
             width: width,
+            widening: widening,
             d: d,
             a: a,
             imm: imm,

@@ -54,7 +54,7 @@ unfolding acted withRegister cleared loadStep storeStep markStep
 step-marks Stop p h = h
 step-marks (Move d b) p h = h
 step-marks (Compute op d a b) p h = h
-step-marks (Load width d a imm) p h = h
+step-marks (Load width widening d a imm) p h = h
 step-marks (Store width d a imm) p h = h
 step-marks (Jump a target) p h = h
 step-marks (Emit a port) p h = h

@@ -11,14 +11,16 @@ use lib.Seq.{set-getD}
 use Rattle.rules.specs.Agreement.{Alike}
 use Rattle.rules.specs.Bytes.{byteOf}
 use Rattle.rules.proofs.Agreement.{alike-self, alike-undefined, alike-wider}
-use Rattle.rules.proofs.ByteLaws.{alike-byte, alike-joined}
+use Rattle.rules.proofs.ByteLaws.{alike-byte, alike-joined, alike-swiden}
 use Rattle.image.specs.Tests.{every}
 use Rattle.image.specs.declared.Width.{Width}
-use Rattle.image.specs.declared.Width.the-variants.{Byte, Word}
+use Rattle.image.specs.declared.Width.the-variants.{Byte, Half, Word}
+use Rattle.image.specs.declared.Widening.{Widening}
+use Rattle.image.specs.declared.Widening.the-variants.{Zero, Sign}
 use Rattle.image.proofs.Tests.{both, every-below}
 use Rattle.machine.specs.Machine.{undefinedByte, definedByte, addressableMark, Parts, World}
 use Rattle.machine.specs.Ranges.{isAddressable, allAddressable, loaded, loadedWhere, written, filled, stored, storedWhere}
-use Rattle.machine.specs.Instructions.{bytesOf}
+use Rattle.machine.specs.Instructions.{bytesOf, widened}
 use Rattle.machine.specs.Lists.{outputPlaces, outputsIn}
 use Rattle.machine.specs.Bare.{BareParts, Bare}
 
@@ -103,10 +105,15 @@ byte-undefined a {x} {y} hx hy = go (eqb a addressableMark)
     go true = alike-undefined 8 hx hy
     go false = alike-undefined 8 hx hy
 
--- as many bytes as a load brings make a word
-bytes-word : (width : Width) {v x y : ℕ} → Alike (8 * bytesOf width) v x y → Alike 32 v x y
-bytes-word Byte a = alike-wider 32 (omega arith) a
-bytes-word Word a = a
+-- as many bytes as a load brings make a word, however they are widened
+pub few-bytes : (width : Width) → bytesOf width ≤ 4
+few-bytes Byte = omega arith
+few-bytes Half = omega arith
+few-bytes Word = omega arith
+
+widened-alike : (widening : Widening) (n : ℕ) {v x y : ℕ} → n ≤ 4 → Alike (8 * n) v x y → Alike 32 (widened widening n v) (widened widening n x) (widened widening n y)
+widened-alike Zero n few a = alike-wider 32 (omega arith) a
+widened-alike Sign n few a = alike-swiden n few a
 
 -- ---- ranges of bytes
 module _ {bs vs xs ys : List ℕ} (r : Beside ByteAlike bs vs xs ys) where
@@ -118,10 +125,11 @@ module _ {bs vs xs ys : List ℕ} (r : Beside ByteAlike bs vs xs ys) where
   addressed i e = subst (λ (t : Bool). Alike 8 (cond t (getD vs i 0) undefinedByte) (getD xs i 0) (getD ys i 0)) e (byte-at i)
 
   -- a load of addressable bytes
-  pub load-alike : (at : ℕ) (width : Width) → allAddressable bs at (bytesOf width) ≡ true
-      → Alike 32 (loadedWhere bs vs at (bytesOf width)) (loadedWhere bs xs at (bytesOf width)) (loaded ys at (bytesOf width))
-  load-alike at width h =
-      bytes-word width
+  pub load-alike : (at : ℕ) (width : Width) (widening : Widening) → allAddressable bs at (bytesOf width) ≡ true
+      → Alike 32 (widened widening (bytesOf width) (loadedWhere bs vs at (bytesOf width))) (widened widening (bytesOf width) (loadedWhere bs xs at (bytesOf width)))
+      (widened widening (bytesOf width) (loaded ys at (bytesOf width)))
+  load-alike at width widening h =
+      widened-alike widening (bytesOf width) (few-bytes width)
       (alike-joined (bytesOf width) _ _ _ (λ k l.
       let e : isAddressable bs (at + k) ≡ true = every-below (λ j. isAddressable bs (at + j)) (bytesOf width) h k l in
       rw e (addressed (at + k) e)))

@@ -25,7 +25,7 @@ unfolding wayOn
 way-within n m Stop regs index f h = omega arith
 way-within n m (Move d b) regs index f h = omega arith
 way-within n m (Compute op d a b) regs index f h = omega arith
-way-within n m (Load width d a imm) regs index f h = omega arith
+way-within n m (Load width widening d a imm) regs index f h = omega arith
 way-within n m (Store width d a imm) regs index f h = omega arith
 way-within n m (Jump a target) regs index f h = go (eqb (getD regs a 0) 0)
   where
@@ -42,7 +42,7 @@ unfolding isEmit outputsOf
 has-room Stop regs places k h e = omega arith
 has-room (Move d b) regs places k h e = omega arith
 has-room (Compute op d a b) regs places k h e = omega arith
-has-room (Load width d a imm) regs places k h e = omega arith
+has-room (Load width widening d a imm) regs places k h e = omega arith
 has-room (Store width d a imm) regs places k h e = omega arith
 has-room (Jump a target) regs places k h e = omega arith
 has-room (Emit a port) regs places k h e = omega (arith, leb-false places k e)
@@ -72,7 +72,7 @@ unfolding reportsOf
 few-reports Stop p = omega arith
 few-reports (Move d b) p = omega arith
 few-reports (Compute op d a b) p = omega arith
-few-reports (Load width d a imm) p = of-access unaddressableLoad (addressOf (p .regs) a imm) (getD (p .regsV) a 0) (blocked (p .memA) (Load width d a imm) (p .regs))
+few-reports (Load width widening d a imm) p = of-access unaddressableLoad (addressOf (p .regs) a imm) (getD (p .regsV) a 0) (blocked (p .memA) (Load width widening d a imm) (p .regs))
 few-reports (Store width d a imm) p = of-access unaddressableStore (addressOf (p .regs) a imm) (getD (p .regsV) a 0) (blocked (p .memA) (Store width d a imm) (p .regs))
 few-reports (Jump a target) p = omega (arith, few-undefined undefinedCondition (getD (p .regsV) a 0))
 few-reports (Emit a port) p = omega (arith, few-undefined undefinedOutput (getD (p .regsV) a 0))
@@ -100,7 +100,7 @@ unfolding acted withRegister cleared loadStep storeStep markStep
 same-lengths Stop p = record { regs = refl; regsV = refl; mem = refl; memV = refl; memA = refl }
 same-lengths (Move d b) p = record { regs = length-set (p .regs) d _; regsV = length-set (p .regsV) d _; mem = refl; memV = refl; memA = refl }
 same-lengths (Compute op d a b) p = record { regs = length-set (p .regs) d _; regsV = length-set (p .regsV) d _; mem = refl; memV = refl; memA = refl }
-same-lengths (Load width d a imm) p =
+same-lengths (Load width widening d a imm) p =
     record { regs = length-set (p .regs) d _; regsV = length-set (set (p .regsV) a 0) d _ ∙ length-set (p .regsV) a 0; mem = refl; memV = refl; memA = refl }
 same-lengths (Store width d a imm) p =
     record { regs = refl; regsV = length-set (p .regsV) a 0; mem = length-stored (p .memA) _ (p .mem) _ _; memV = length-stored (p .memA) _ (p .memV) _ _; memA = refl }

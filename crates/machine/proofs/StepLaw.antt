@@ -16,6 +16,7 @@ use Rattle.image.specs.Accepted.{OperandFits, Fits}
 use Rattle.image.specs.declared.Operand.{Operand}
 use Rattle.image.specs.declared.Operand.the-variants.{Register, Literal}
 use Rattle.image.specs.declared.Width.{Width}
+use Rattle.image.specs.declared.Widening.{Widening}
 use Rattle.image.specs.declared.Instruction.{Instruction}
 use Rattle.image.specs.declared.Instruction.the-variants.{Stop, Move, Compute, Load, Store, Jump, Emit, Mark}
 use Rattle.image.proofs.Tests.{apart}
@@ -95,9 +96,9 @@ module _ {p : Parts} {q : BareParts} (r : PartsAlike p q) where
     free : not (allAddressable (q .marks) (addressOf (q .regs) a imm) (bytesOf width)) ≡ false
     free = rw (r .marks, address-same, h)
 
-    load-step : (d : ℕ) → PartsAlike (acted (Load width d a imm) p) (bareActed (Load width d a imm) q)
+    load-step : (widening : Widening) (d : ℕ) → PartsAlike (acted (Load width widening d a imm) p) (bareActed (Load width widening d a imm) q)
     unfolding acted bareActed loadStep
-    load-step d = rw (cleared-same a p z, address-same) (with-register d (load-alike (r .mem) (addressOf (p .regs) a imm) width h))
+    load-step widening d = rw (cleared-same a p z, address-same) (with-register d (load-alike (r .mem) (addressOf (p .regs) a imm) width widening h))
 
     store-step : (d : ℕ) → PartsAlike (acted (Store width d a imm) p) (bareActed (Store width d a imm) q)
     unfolding acted bareActed storeStep
@@ -131,9 +132,9 @@ kept n m (Compute op d a b) {p} {q} f r e =
       way = λ index. refl;
       outputs = refl;
     }
-kept n m (Load width d a imm) f r e =
+kept n m (Load width widening d a imm) f r e =
     let q = quiet-access r width a imm unaddressableLoad e in
-    record { after = load-step r width a imm (q .0) (q .1) d; free = free r width a imm (q .0) (q .1); way = λ index. refl; outputs = refl }
+    record { after = load-step r width a imm (q .0) (q .1) widening d; free = free r width a imm (q .0) (q .1); way = λ index. refl; outputs = refl }
 kept n m (Store width d a imm) f r e =
     let q = quiet-access r width a imm unaddressableStore e in
     record { after = store-step r width a imm (q .0) (q .1) d; free = free r width a imm (q .0) (q .1); way = λ index. refl; outputs = refl }

@@ -11,7 +11,7 @@ use Rattle.image.specs.declared.Instruction.the-variants.{Stop, Move, Compute, 
 use Rattle.machine.specs.Machine.{Program}
 use Rattle.machine.specs.Ranges.{loaded, filled, stored}
 use Rattle.machine.specs.Beginning.{begunMemory, begunA}
-use Rattle.machine.specs.Instructions.{operandData, addressOf, bytesOf, blocked, wayOn, Output, outputsOf}
+use Rattle.machine.specs.Instructions.{operandData, addressOf, bytesOf, widened, blocked, wayOn, Output, outputsOf}
 use Rattle.machine.specs.Steps.{markOf}
 use Rattle.machine.specs.Runs.{trapped, reasonAt, Ended, runOn}
 
@@ -39,7 +39,8 @@ unfoldable pub bareActed : Instruction → BareParts → BareParts
 bareActed Stop p = p
 bareActed (Move d b) p = bareParts (set (p .regs) d (movOf (operandData b (p .regs)))) (p .mem) (p .marks)
 bareActed (Compute op d a b) p = bareParts (set (p .regs) d (actionOf op (getD (p .regs) a 0) (operandData b (p .regs)))) (p .mem) (p .marks)
-bareActed (Load width d a imm) p = bareParts (set (p .regs) d (loaded (p .mem) (addressOf (p .regs) a imm) (bytesOf width))) (p .mem) (p .marks)
+bareActed (Load width widening d a imm) p =
+    bareParts (set (p .regs) d (widened widening (bytesOf width) (loaded (p .mem) (addressOf (p .regs) a imm) (bytesOf width)))) (p .mem) (p .marks)
 bareActed (Store width d a imm) p = bareParts (p .regs) (stored (getD (p .regs) d 0) (p .mem) (addressOf (p .regs) a imm) (bytesOf width)) (p .marks)
 bareActed (Jump a target) p = p
 bareActed (Emit a port) p = p

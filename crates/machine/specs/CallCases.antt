@@ -6,6 +6,7 @@ use lib.ListN.{replicate, set}
 use Rattle.image.specs.Refusals.{refused}
 use Rattle.image.specs.declared.Refusal.{Refusal}
 use Rattle.image.specs.declared.Width.the-variants.{Byte}
+use Rattle.image.specs.declared.Widening.the-variants.{Zero}
 use Rattle.image.specs.declared.Instruction.{Instruction}
 use Rattle.image.specs.declared.Instruction.the-variants.{Load, Emit}
 use Rattle.machine.specs.Machine.{Parts, parts, Counts, World, Program}
@@ -35,11 +36,11 @@ fourBytes regs regsV = parts regs regsV (0x11 ∷ 0x22 ∷ 0x33 ∷ 0x44 ∷ [])
 abbrev pub stepCases : List StepCase
 stepCases =
     -- two reports go to places 1 and 2, with steps and index as before the step; place 0 keeps its words
-    stepCase (Load Byte 1 0 2)
+    stepCase (Load Byte Zero 1 0 2)
     (world (fourBytes (2 ∷ 7 ∷ []) (0x10 ∷ 9 ∷ [])) (counts 5 9 0 1) (1 ∷ 2 ∷ 3 ∷ 4 ∷ 0 ∷ 0 ∷ 0 ∷ 0 ∷ 0 ∷ 0 ∷ 0 ∷ 0 ∷ []) [])
     (world (fourBytes (2 ∷ 0 ∷ []) (0 ∷ 0 ∷ [])) (counts 6 10 0 3) (1 ∷ 2 ∷ 3 ∷ 4 ∷ 9 ∷ 5 ∷ 1 ∷ 0x10 ∷ 9 ∷ 5 ∷ 3 ∷ 4 ∷ []) [])
     -- with one place left the second is counted and not stored
-    ∷ stepCase (Load Byte 1 0 2)
+    ∷ stepCase (Load Byte Zero 1 0 2)
     (world (fourBytes (2 ∷ 7 ∷ []) (0x10 ∷ 9 ∷ [])) (counts 5 9 0 1) (1 ∷ 2 ∷ 3 ∷ 4 ∷ 0 ∷ 0 ∷ 0 ∷ 0 ∷ []) [])
     (world (fourBytes (2 ∷ 0 ∷ []) (0 ∷ 0 ∷ [])) (counts 6 10 0 3) (1 ∷ 2 ∷ 3 ∷ 4 ∷ 9 ∷ 5 ∷ 1 ∷ 0x10 ∷ []) [])
     -- an output goes to its place, and its report with it
@@ -80,7 +81,7 @@ smallRefused = parts (replicate 16 0) (replicate 16 0) (0x50 ∷ 0x51 ∷ []) ha
 
 -- ---- the bare machine, at a load of byte 2, which is not marked: no reason of 2, 1, 4 and 3 holds, and it traps
 abbrev pub atLoad : Program
-atLoad = record { count = 1; at = λ i. Load Byte 1 0 2 }
+atLoad = record { count = 1; at = λ i. Load Byte Zero 1 0 2 }
 
 abbrev pub bareThere : Bare
 bareThere = record { parts = bareParts (0 ∷ 7 ∷ []) (0x11 ∷ 0x22 ∷ 0x33 ∷ 0x44 ∷ []) (1 ∷ 1 ∷ 0 ∷ 1 ∷ []); index = 0; steps = 4; outputs = [] }

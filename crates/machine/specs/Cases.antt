@@ -8,7 +8,8 @@ use lib.ListN.{replicate}
 use Rattle.rules.specs.Word.{allOnes}
 use Rattle.rules.specs.declared.Operation.the-variants.{Add, Xor}
 use Rattle.image.specs.declared.Operand.the-variants.{Register, Literal}
-use Rattle.image.specs.declared.Width.the-variants.{Byte, Word}
+use Rattle.image.specs.declared.Width.the-variants.{Byte, Half, Word}
+use Rattle.image.specs.declared.Widening.the-variants.{Zero, Sign}
 use Rattle.image.specs.declared.Instruction.{Instruction}
 use Rattle.image.specs.declared.Instruction.the-variants.{Stop, Move, Compute, Load, Store, Jump, Emit, Mark}
 use Rattle.machine.specs.Machine.{Parts, parts}
@@ -63,25 +64,25 @@ sixtyFour regs regsV = parts regs regsV (replicate 62 0 ++ 0xAA ∷ 0xBB ∷ [])
 abbrev pub cases : List Case
 cases =
     -- 01: LD32 at 62 of 64, and at 60
-    quietly (Load Word 1 0 0) (sixtyFour (62 ∷ 7 ∷ []) (0 ∷ 9 ∷ [])) (report 3 62 ∷ []) (sixtyFour (62 ∷ 0xBBAA ∷ []) (0 ∷ 0 ∷ []))
-    ∷ quietly (Load Word 1 0 0) (sixtyFour (60 ∷ 7 ∷ []) (0 ∷ 9 ∷ [])) [] (sixtyFour (60 ∷ 0xBBAA_0000 ∷ []) (0 ∷ 0 ∷ []))
+    quietly (Load Word Zero 1 0 0) (sixtyFour (62 ∷ 7 ∷ []) (0 ∷ 9 ∷ [])) (report 3 62 ∷ []) (sixtyFour (62 ∷ 0xBBAA ∷ []) (0 ∷ 0 ∷ []))
+    ∷ quietly (Load Word Zero 1 0 0) (sixtyFour (60 ∷ 7 ∷ []) (0 ∷ 9 ∷ [])) [] (sixtyFour (60 ∷ 0xBBAA_0000 ∷ []) (0 ∷ 0 ∷ []))
     -- 01: 0xFFFFFFFF plus 1 is 0; but byte 1 of an access at 0xFFFFFFFF is not byte 0 of memory
-    ∷ quietly (Load Byte 1 0 1) (four (0xFFFF_FFFF ∷ 7 ∷ []) (0 ∷ 9 ∷ []) bytes defined) [] (four (0xFFFF_FFFF ∷ 0x11 ∷ []) (0 ∷ 0 ∷ []) bytes defined)
-    ∷ quietly (Load Word 1 0 0) (four (0xFFFF_FFFF ∷ 7 ∷ []) (0 ∷ 9 ∷ []) bytes defined) (report 3 0xFFFF_FFFF ∷ []) (four (0xFFFF_FFFF ∷ 0 ∷ []) (0 ∷ 0 ∷ []) bytes defined)
+    ∷ quietly (Load Byte Zero 1 0 1) (four (0xFFFF_FFFF ∷ 7 ∷ []) (0 ∷ 9 ∷ []) bytes defined) [] (four (0xFFFF_FFFF ∷ 0x11 ∷ []) (0 ∷ 0 ∷ []) bytes defined)
+    ∷ quietly (Load Word Zero 1 0 0) (four (0xFFFF_FFFF ∷ 7 ∷ []) (0 ∷ 9 ∷ []) bytes defined) (report 3 0xFFFF_FFFF ∷ []) (four (0xFFFF_FFFF ∷ 0 ∷ []) (0 ∷ 0 ∷ []) bytes defined)
     ∷ quietly (Store Word 1 0 0) (four (0xFFFF_FFFE ∷ 7 ∷ []) (0 ∷ 9 ∷ []) bytes defined) (report 4 0xFFFF_FFFE ∷ []) (four (0xFFFF_FFFE ∷ 7 ∷ []) (0 ∷ 9 ∷ []) bytes defined)
     -- copying undefined bits is no error, and V comes along, zero-widened by LD8
-    ∷ quietly (Load Word 1 0 0) (four (0 ∷ 7 ∷ []) (0 ∷ 9 ∷ []) bytes (0x01 ∷ 0 ∷ 0xFF ∷ 0x80 ∷ [])) [] (four (0 ∷ 0x8433_2211 ∷ []) (0 ∷ 0x80FF_0001 ∷ []) bytes (0x01 ∷ 0 ∷ 0xFF ∷ 0x80 ∷ []))
-    ∷ quietly (Load Byte 1 0 3) (four (0 ∷ 7 ∷ []) (0 ∷ allOnes ∷ []) bytes (0 ∷ 0 ∷ 0 ∷ 0x80 ∷ [])) [] (four (0 ∷ 0x84 ∷ []) (0 ∷ 0x80 ∷ []) bytes (0 ∷ 0 ∷ 0 ∷ 0x80 ∷ []))
+    ∷ quietly (Load Word Zero 1 0 0) (four (0 ∷ 7 ∷ []) (0 ∷ 9 ∷ []) bytes (0x01 ∷ 0 ∷ 0xFF ∷ 0x80 ∷ [])) [] (four (0 ∷ 0x8433_2211 ∷ []) (0 ∷ 0x80FF_0001 ∷ []) bytes (0x01 ∷ 0 ∷ 0xFF ∷ 0x80 ∷ []))
+    ∷ quietly (Load Byte Zero 1 0 3) (four (0 ∷ 7 ∷ []) (0 ∷ allOnes ∷ []) bytes (0 ∷ 0 ∷ 0 ∷ 0x80 ∷ [])) [] (four (0 ∷ 0x84 ∷ []) (0 ∷ 0x80 ∷ []) bytes (0 ∷ 0 ∷ 0 ∷ 0x80 ∷ []))
     ∷ quietly (Store Word 1 0 0) (four (0 ∷ 0x8765_4321 ∷ []) (0 ∷ 0xF00F_00FF ∷ []) bytes defined) [] (four (0 ∷ 0x8765_4321 ∷ []) (0 ∷ 0xF00F_00FF ∷ []) (0x21 ∷ 0x43 ∷ 0x65 ∷ 0x87 ∷ []) (0xFF ∷ 0 ∷ 0x0F ∷ 0xF0 ∷ []))
     ∷ quietly (Store Byte 1 0 2) (four (0 ∷ 0x8765_4321 ∷ []) (0 ∷ 0xF00F_00FE ∷ []) bytes defined) [] (four (0 ∷ 0x8765_4321 ∷ []) (0 ∷ 0xF00F_00FE ∷ []) (0x11 ∷ 0x22 ∷ 0x21 ∷ 0x84 ∷ []) (0 ∷ 0 ∷ 0xFE ∷ 0 ∷ []))
     -- an undefined address: the report has V before clearing; then the bytes; two reports in their order
-    ∷ quietly (Load Byte 1 0 0) (four (2 ∷ 7 ∷ []) (0x10 ∷ 9 ∷ []) bytes defined) (report 1 0x10 ∷ []) (four (2 ∷ 0x33 ∷ []) (0 ∷ 0 ∷ []) bytes defined)
-    ∷ quietly (Load Byte 1 0 2) (four (2 ∷ 7 ∷ []) (0x10 ∷ 9 ∷ []) bytes defined) (report 1 0x10 ∷ report 3 4 ∷ []) (four (2 ∷ 0 ∷ []) (0 ∷ 0 ∷ []) bytes defined)
-    ∷ quietly (Load Byte 0 0 0) (four (1 ∷ 7 ∷ []) (0x10 ∷ 9 ∷ []) bytes (0 ∷ 0x55 ∷ 0 ∷ 0 ∷ [])) (report 1 0x10 ∷ []) (four (0x22 ∷ 7 ∷ []) (0x55 ∷ 9 ∷ []) bytes (0 ∷ 0x55 ∷ 0 ∷ 0 ∷ []))
+    ∷ quietly (Load Byte Zero 1 0 0) (four (2 ∷ 7 ∷ []) (0x10 ∷ 9 ∷ []) bytes defined) (report 1 0x10 ∷ []) (four (2 ∷ 0x33 ∷ []) (0 ∷ 0 ∷ []) bytes defined)
+    ∷ quietly (Load Byte Zero 1 0 2) (four (2 ∷ 7 ∷ []) (0x10 ∷ 9 ∷ []) bytes defined) (report 1 0x10 ∷ report 3 4 ∷ []) (four (2 ∷ 0 ∷ []) (0 ∷ 0 ∷ []) bytes defined)
+    ∷ quietly (Load Byte Zero 0 0 0) (four (1 ∷ 7 ∷ []) (0x10 ∷ 9 ∷ []) bytes (0 ∷ 0x55 ∷ 0 ∷ 0 ∷ [])) (report 1 0x10 ∷ []) (four (0x22 ∷ 7 ∷ []) (0x55 ∷ 9 ∷ []) bytes (0 ∷ 0x55 ∷ 0 ∷ 0 ∷ []))
     -- a store with d the same as a uses the V after clearing
     ∷ quietly (Store Word 0 0 0) (four (0 ∷ 7 ∷ []) (allOnes ∷ 9 ∷ []) bytes (1 ∷ 1 ∷ 1 ∷ 1 ∷ [])) (report 1 0xFFFF_FFFF ∷ []) (four (0 ∷ 7 ∷ []) (0 ∷ 9 ∷ []) (0 ∷ 0 ∷ 0 ∷ 0 ∷ []) defined)
     -- unaddressable bytes in the middle: not loaded, not stored to, one report
-    ∷ quietly (Load Word 1 0 0) (parts (0 ∷ 7 ∷ []) (0 ∷ 9 ∷ []) bytes (0xFF ∷ 0xFF ∷ 0xFF ∷ 0xFF ∷ []) (1 ∷ 0 ∷ 0 ∷ 1 ∷ [])) (report 3 0 ∷ []) (parts (0 ∷ 0x8400_0011 ∷ []) (0 ∷ 0xFF00_00FF ∷ []) bytes (0xFF ∷ 0xFF ∷ 0xFF ∷ 0xFF ∷ []) (1 ∷ 0 ∷ 0 ∷ 1 ∷ []))
+    ∷ quietly (Load Word Zero 1 0 0) (parts (0 ∷ 7 ∷ []) (0 ∷ 9 ∷ []) bytes (0xFF ∷ 0xFF ∷ 0xFF ∷ 0xFF ∷ []) (1 ∷ 0 ∷ 0 ∷ 1 ∷ [])) (report 3 0 ∷ []) (parts (0 ∷ 0x8400_0011 ∷ []) (0 ∷ 0xFF00_00FF ∷ []) bytes (0xFF ∷ 0xFF ∷ 0xFF ∷ 0xFF ∷ []) (1 ∷ 0 ∷ 0 ∷ 1 ∷ []))
     ∷ quietly (Store Word 1 0 0) (parts (0 ∷ 0xA1A2_A3A4 ∷ []) (0 ∷ 0x0000_00F0 ∷ []) bytes (0xFF ∷ 0xFF ∷ 0xFF ∷ 0xFF ∷ []) (1 ∷ 0 ∷ 0 ∷ 1 ∷ [])) (report 4 0 ∷ []) (parts (0 ∷ 0xA1A2_A3A4 ∷ []) (0 ∷ 0x0000_00F0 ∷ []) (0xA4 ∷ 0x22 ∷ 0x33 ∷ 0xA1 ∷ []) (0xF0 ∷ 0xFF ∷ 0xFF ∷ 0 ∷ []) (1 ∷ 0 ∷ 0 ∷ 1 ∷ []))
     -- JNZ goes by the data, reported or not
     ∷ case (Jump 0 2) (four (8 ∷ 7 ∷ []) (8 ∷ 9 ∷ []) bytes defined) (report 2 8 ∷ []) [] (four (8 ∷ 7 ∷ []) (0 ∷ 9 ∷ []) bytes defined) 2

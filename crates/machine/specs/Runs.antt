@@ -30,7 +30,7 @@ unfoldable pub isStop : Instruction → Bool
 isStop Stop = true
 isStop (Move d b) = false
 isStop (Compute op d a b) = false
-isStop (Load width d a imm) = false
+isStop (Load width widening d a imm) = false
 isStop (Store width d a imm) = false
 isStop (Jump a target) = false
 isStop (Emit a port) = false
@@ -40,7 +40,7 @@ unfoldable pub isEmit : Instruction → Bool
 isEmit Stop = false
 isEmit (Move d b) = false
 isEmit (Compute op d a b) = false
-isEmit (Load width d a imm) = false
+isEmit (Load width widening d a imm) = false
 isEmit (Store width d a imm) = false
 isEmit (Jump a target) = false
 isEmit (Emit a port) = true

@@ -1,4 +1,4 @@
--- One step of the machine with its shadow (01, Shadow rules): what it does to the parts, and what it reports.
+-- One step of the machine with its shadow (01, Shadow rules; half words and signed loads: 02, L1): what it does to the parts, and what it reports.
 use Prim.Native.Nat.{ℕ}
 use mathlib.Core.Bool.{Bool, true, false, cond}
 use mathlib.Core.List.{List, [], _∷_, _++_}
@@ -9,11 +9,12 @@ use Rattle.rules.specs.Shadows.{movV}
 use Rattle.rules.specs.Operations.{actionOf, shadowOf}
 use Rattle.image.specs.declared.Operand.{Operand}
 use Rattle.image.specs.declared.Operand.the-variants.{Register, Literal}
+use Rattle.image.specs.declared.Widening.{Widening}
 use Rattle.image.specs.declared.Instruction.{Instruction}
 use Rattle.image.specs.declared.Instruction.the-variants.{Stop, Move, Compute, Load, Store, Jump, Emit, Mark}
 use Rattle.machine.specs.Machine.{undefinedByte, addressableMark, unaddressableMark, Parts, parts}
 use Rattle.machine.specs.Ranges.{loadedWhere, filled, storedWhere}
-use Rattle.machine.specs.Instructions.{operandData, addressOf, bytesOf, blocked}
+use Rattle.machine.specs.Instructions.{operandData, addressOf, bytesOf, widened, blocked}
 
 -- V of B: a register's, or 0, as a literal is fully defined
 abbrev pub operandV : Operand → List ℕ → ℕ
@@ -34,9 +35,9 @@ withRegister d x v p = parts (set (p .regs) d x) (set (p .regsV) d v) (p .mem) (
 unfoldable pub cleared : ℕ → Parts → Parts
 cleared a p = parts (p .regs) (set (p .regsV) a 0) (p .mem) (p .memV) (p .memA)
 
--- register d gets data and V of n bytes; an unaddressable byte loads as data 0, V 0
-unfoldable pub loadStep : (d at n : ℕ) → Parts → Parts
-loadStep d at n p = withRegister d (loadedWhere (p .memA) (p .mem) at n) (loadedWhere (p .memA) (p .memV) at n) p
+-- register d gets data and V of n bytes, widened; an unaddressable byte loads as data 0, V 0, before widening
+unfoldable pub loadStep : Widening → (d at n : ℕ) → Parts → Parts
+loadStep widening d at n p = withRegister d (widened widening n (loadedWhere (p .memA) (p .mem) at n)) (widened widening n (loadedWhere (p .memA) (p .memV) at n)) p
 
 -- data and V of register d go to the addressable ones of n bytes
 unfoldable pub storeStep : (d at n : ℕ) → Parts → Parts
@@ -59,7 +60,7 @@ acted (Compute op d a b) p =
     withRegister d (actionOf op (getD (p .regs) a 0) (operandData b (p .regs)))
     (shadowOf op (sameRegister a b) (getD (p .regs) a 0) (getD (p .regsV) a 0) (operandData b (p .regs)) (operandV b (p .regsV)))
     p
-acted (Load width d a imm) p = loadStep d (addressOf (p .regs) a imm) (bytesOf width) (cleared a p)
+acted (Load width widening d a imm) p = loadStep widening d (addressOf (p .regs) a imm) (bytesOf width) (cleared a p)
 acted (Store width d a imm) p = storeStep d (addressOf (p .regs) a imm) (bytesOf width) (cleared a p)
 acted (Jump a target) p = cleared a p
 acted (Emit a port) p = cleared a p
@@ -102,9 +103,9 @@ unfoldable pub reportsOf : Instruction → Parts → List Report
 reportsOf Stop p = []
 reportsOf (Move d b) p = []
 reportsOf (Compute op d a b) p = []
-reportsOf (Load width d a imm) p =
+reportsOf (Load width widening d a imm) p =
     ifUndefined undefinedAddress (getD (p .regsV) a 0)
-    ++ ifBlocked unaddressableLoad (addressOf (p .regs) a imm) (blocked (p .memA) (Load width d a imm) (p .regs))
+    ++ ifBlocked unaddressableLoad (addressOf (p .regs) a imm) (blocked (p .memA) (Load width widening d a imm) (p .regs))
 reportsOf (Store width d a imm) p =
     ifUndefined undefinedAddress (getD (p .regsV) a 0)
     ++ ifBlocked unaddressableStore (addressOf (p .regs) a imm) (blocked (p .memA) (Store width d a imm) (p .regs))

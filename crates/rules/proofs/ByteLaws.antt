@@ -2,15 +2,17 @@
 use mathlib.Core.Path.{_≡_, sym, ap, _∙_, subst}
 use mathlib.Core.Logic.{_⊎_, inl, inr, ⊎-elim}
 use mathlib.Core.List.{List}
-use Prim.Native.Nat.{ℕ, zero, suc, _+_, _-_, _*_, _/_, _%_, _^_, _≤_, _<_}
+use Prim.Native.Nat.{ℕ, zero, suc, _+_, _-_, _*_, _/_, _%_, _^_, _≤_, _<_, min, max}
 use native.Mathlib.Nat.{mod-lt, mod-eq-of-lt, div-eq-of-lt, lt-of-lt-of-le}
 use native.Mathlib.Omega.{arith}
-use lib.Pow.{pow-pos, pow-mono, shl-lt, shl-exact, high, low, field, mod-mod-pow, mod-pow-add}
+use lib.Pow.{pow-pos, pow-mono, ones-lt, shl-lt, shl-exact, high, low, field, mod-mod-pow, mod-pow-add}
 use lib.ListN.{length, getD}
-use lib.Bits.{or-lt, or-shifted-r}
+use lib.Bits.{bitOr, or-lt, or-shifted-r, or-zero-r}
+use Rattle.rules.specs.Word.{bit, copies}
+use Rattle.rules.specs.Shadows.{above, SWiden}
 use Rattle.rules.specs.Bytes.{byteOf, placed, joined, joinOf}
 use Rattle.rules.specs.Agreement.{Alike}
-use Rattle.rules.proofs.Bits.{lt-or-ge, bit-mod, bit-high, bit-shr, bit-shl-low, bit-shl-high}
+use Rattle.rules.proofs.Bits.{lt-or-ge, bit-lt, bit-mod, bit-high, bit-or, bit-shr, bit-shl-low, bit-shl-high, bit-not, bit-ones, bit-copies, copies-lt}
 use Rattle.rules.proofs.Agreement.{alike-self, alike-wider, alike-or, Moves, alike-moved}
 
 -- eight bits more
@@ -42,6 +44,20 @@ unfolding joined
 joined-lt zero f h = omega arith
 joined-lt (suc n) f h =
     or-lt (8 * suc n) (joined n f) (placed n (f n)) (lt-of-lt-of-le (joined-lt n f (λ k l. h k (omega arith))) (pow-mono (omega arith))) (placed-lt n (f n) (h n (omega arith)))
+
+-- ---- SWiden
+ones-word : (n : ℕ) → n ≤ 4 → 2 ^ (8 * n) - 1 < 2 ^ 32
+ones-word n few = lt-of-lt-of-le (ones-lt (8 * n)) (pow-mono {j = 32} (omega arith))
+
+swiden-lt : (n x : ℕ) → n ≤ 4 → x < 2 ^ (8 * n) → SWiden n x < 2 ^ 32
+swiden-lt n x few h = or-lt 32 x (copies (8 * n - 1) (above n) x) (lt-of-lt-of-le h (pow-mono {j = 32} (omega arith))) (copies-lt (8 * n - 1) x (omega arith))
+
+-- four bytes and more leave no new places
+pub swiden-whole : (n x : ℕ) → 4 ≤ n → x ≡ SWiden n x
+swiden-whole n x l = sym (ap (bitOr x) none ∙ or-zero-r x)
+  where
+    none : copies (8 * n - 1) (above n) x ≡ 0
+    none = omega (arith, copies-lt (8 * n - 1) x {mask = above n} {n = 1} (omega (arith, pow-mono {i = 32} {j = 8 * n} (omega arith))))
 
 -- ---- each undoes the other
 pub joined-bytes : (n x : ℕ) → joined n (λ k. byteOf k x) ≡ x % 2 ^ (8 * n)
@@ -101,9 +117,34 @@ placed-moves n k i =
     (λ (l : 8 * k ≤ i). inl (i - 8 * k, λ x h. bit-shl-high i (8 * k) x l))
     (lt-or-ge i (8 * k))
 
+-- a bit of n bytes with their sign: its own, or above them their top one
+bit-swiden : (n i x : ℕ) → n ≤ 4 → i < 32 → x < 2 ^ (8 * n) → bit i (SWiden n x) ≡ bit (min i (8 * n - 1)) x
+bit-swiden n i x few l h =
+    bit-or i x (copies (8 * n - 1) (above n) x)
+    ∙ ap (max (bit i x)) (bit-copies i (8 * n - 1) (above n) x ∙ ap (min (bit (8 * n - 1) x)) (bit-not 32 i (2 ^ (8 * n) - 1) l (ones-word n few)))
+    ∙ ⊎-elim
+    (λ (m : i < 8 * n). at i (omega arith) (omega (arith, bit-ones (8 * n) i m)))
+    (λ (m : 8 * n ≤ i). at (8 * n - 1) (omega arith) (omega (arith, bit-high (8 * n) i (2 ^ (8 * n) - 1) (ones-lt (8 * n)) m, bit-high (8 * n) i x h m, bit-lt (8 * n - 1) x)))
+    (lt-or-ge i (8 * n))
+  where
+    at : {r : ℕ} (j : ℕ) → j ≡ min i (8 * n - 1) → r ≡ bit j x → r ≡ bit (min i (8 * n - 1)) x
+    at j e p = p ∙ ap (λ (k : ℕ). bit k x) e
+
+swiden-moves : (n : ℕ) → n ≤ 4 → Moves (8 * n) (SWiden n)
+unfolding Moves
+swiden-moves n few i =
+    ⊎-elim
+    (λ (l : i < 32). inl (min i (8 * n - 1), λ x h. bit-swiden n i x few l h))
+    (λ (l : 32 ≤ i). inr (λ x h. bit-high 32 i (SWiden n x) (swiden-lt n x few h) l))
+    (lt-or-ge i 32)
+
 -- a store: byte k of numbers that agree
 pub alike-byte : {n v x x′ : ℕ} (k : ℕ) → Alike n v x x′ → Alike 8 (byteOf k v) (byteOf k x) (byteOf k x′)
 alike-byte {n} k a = alike-moved 8 (byteOf k) (byte-moves n k) (λ x h. byte-lt k x) a
+
+-- a signed load: n bytes with their sign
+pub alike-swiden : {v x x′ : ℕ} (n : ℕ) → n ≤ 4 → Alike (8 * n) v x x′ → Alike 32 (SWiden n v) (SWiden n x) (SWiden n x′)
+alike-swiden n few a = alike-moved 32 (SWiden n) (swiden-moves n few) (λ x h. swiden-lt n x few h) a
 
 -- a load: the number of n bytes that agree
 pub alike-joined : (n : ℕ) (v x x′ : ℕ → ℕ) → ((k : ℕ) → k < n → Alike 8 (v k) (x k) (x′ k)) → Alike (8 * n) (joined n v) (joined n x) (joined n x′)

@@ -1,10 +1,10 @@
 -- The shadow rules (01, "Shadow rules"; ADD and SUB: 02, L13; EQ: 02, L4). v and w are the operands' V words, x and y their data. A V bit is 1 where the data bit is undefined.
--- UifU, Left, PCast and ZWiden are the abstract operations of 000, section 2.5; the rules that are made of them are in its section 2.6.
-use Prim.Native.Nat.{ℕ, _-_, _^_}
+-- UifU, Left, PCast, ZWiden and SWiden are the abstract operations of 000, section 2.5; the rules that are made of them are in its section 2.6.
+use Prim.Native.Nat.{ℕ, _-_, _*_, _^_}
 use mathlib.Core.Bool.{Bool, cond, not, _||_}
 use lib.Bits.{bitAnd, bitOr, bitXor}
 use lib.Dec.{eqb}
-use Rattle.rules.specs.Word.{allOnes, inverted, negated}
+use Rattle.rules.specs.Word.{allOnes, inverted, negated, copies}
 use Rattle.rules.specs.Actions.{addOf, subOf, shlOf, shrOf, sarOf}
 
 -- undefined where either is
@@ -22,6 +22,14 @@ PCast n v = cond (eqb v 0) 0 (2 ^ n - 1)
 -- wider, with zeros in the new places, which says defined: as a number it stays what it is
 abbrev pub ZWiden : ℕ → ℕ
 ZWiden v = v
+
+-- the places of a word above its n low bytes
+abbrev pub above : ℕ → ℕ
+above n = inverted (2 ^ (8 * n) - 1)
+
+-- n bytes wider, with copies of their top bit in the new places, which are as undefined as it is; a signed load does the same to data (02, L1)
+abbrev pub SWiden : ℕ → ℕ → ℕ
+SWiden n v = bitOr v (copies (8 * n - 1) (above n) v)
 
 -- One signature for the rules of all operations on two operands. The Bool says that a and B are the same register.
 abbrev pub Rule : Type 0

@@ -1,6 +1,7 @@
 // Plain words: what data words and V words have in common.
 ghost use mathlib.Core.Path.{_≡_};
 ghost use mathlib.Core.Bool.{cond};
+ghost use Prim.Native.Nat.{_<_};
 ghost use Rattle.rules.specs.Word.{negated, copies};
 ghost use Rattle.rules.specs.Actions.{amountOf, shlOf, shrOf, sarOf, freed};
 
@@ -23,11 +24,12 @@ pub fn negate(v: u32) -> u32
     std::num::wrapping_sub_u32(0, v)
 }
 
-// The mask where the top bit of x is set, else 0.
-fn copies_of_top(mask: u32, x: u32) -> u32
-    ensures { λ r. ⌜ r ≡ copies 31 mask x ⌝ }
+// The mask where bit j of x is set, else 0.
+pub fn copies_of(j: u32, mask: u32, x: u32) -> u32
+    requires { ⌜ j < 32 ⌝ }
+    ensures { λ r. ⌜ r ≡ copies j mask x ⌝ }
 {
-    select(x >> TOP == 1, mask, 0)
+    select((x >> j) % 2 == 1, mask, 0)
 }
 
 // A shift's amount: the operand's value modulo the bits of a word.
@@ -60,5 +62,5 @@ fn freed_by(y: u32) -> u32
 pub fn shift_right_signed(x: u32, y: u32) -> u32
     ensures { λ r. ⌜ r ≡ sarOf x y ⌝ }
 {
-    shift_right(x, y) | copies_of_top(freed_by(y), x)
+    shift_right(x, y) | copies_of(TOP, freed_by(y), x)
 }

@@ -2,9 +2,10 @@ use borrow.Author.Needs.{needs}
 use native.Mathlib.Omega.{arith}
 use Prim.Native.Nat.{_-_, _≤_}
 use mathlib.Core.Path.{_≡_, _∙_, ap}
-use Rattle.checker.proofs.RangeLaws.{few-bytes, none-stored, same-stored, more-stored}
+use Rattle.checker.proofs.RangeLaws.{none-stored, same-stored, more-stored}
 use Rattle.machine.specs.Ranges.{storedWhere}
 use Rattle.machine.specs.Instructions.{bytesOf}
+use Rattle.machine.proofs.Relation.{few-bytes}
 use Rattle.checker.proofs.ranges.store_some.Statement.{statement}
 use Rattle.checker.proofs.ranges.store_some.Tie as tie
 

@@ -12,6 +12,6 @@ load-spec =
     (λ c κs. search needs)
     (λ c κs. search needs)
     (λ c κs. search loaded-register)
-    (λ c κs. search room-kept)
+    (λ c κs. let p : tie.Start = search in search (room-kept, p .pre .0))
     (λ c. search needs)
     (λ c. search load-law))

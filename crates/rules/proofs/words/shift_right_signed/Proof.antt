@@ -9,4 +9,4 @@ shift-right-signed-spec =
     (λ c κs. search needs)
     (λ c κs. search needs)
     (λ c κs. search needs)
-    (λ c. rw (c .copies-of-top .ensures, c .before .freed-by .ensures, c .before .before .shift-right .ensures)))
+    (λ c. rw (c .copies-of .ensures, c .before .freed-by .ensures, c .before .before .shift-right .ensures)))
