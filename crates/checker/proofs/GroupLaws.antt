@@ -77,15 +77,15 @@ module _ (width : Width) (d a imm : ℕ) (c u w : Counts) (e : w ≡ moved (u .i
       → Reports (ifUndefined undefinedAddress (getD regsV a 0) ++ ifBlocked kind (addressOf regs a imm) (not (allAddressable memA (addressOf regs a imm) (bytesOf width)))) c l u l₂
   asked kind r = subst (λ (rs : _). Reports (ifUndefined undefinedAddress (getD regsV a 0) ++ rs) c l u l₂) (rw (r .bytes, r .place) refl) (r .reports)
 
-  pub load-law : (widening : Widening) (regs′ regsV′ : List ℕ) (x v : ℕ) → Accessed unaddressableLoad width a imm regs memA c regsV l at whole u regsV₁ l₂
-      → regs′ ≡ set regs d x → regsV′ ≡ set regsV₁ d v
-      → x ≡ widened widening (bytesOf width) (loadedWhere memA mem at (bytesOf width)) → v ≡ widened widening (bytesOf width) (loadedWhere memA memV at (bytesOf width))
+  pub load-law : (widening : Widening) (regs′ regsV′ : List ℕ) (x v b bV : ℕ) → Accessed unaddressableLoad width a imm regs memA c regsV l at whole u regsV₁ l₂
+      → regs′ ≡ set regs d x → regsV′ ≡ set regsV₁ d v → x ≡ widened widening (bytesOf width) b → v ≡ widened widening (bytesOf width) bV
+      → b ≡ loadedWhere memA mem at (bytesOf width) → bV ≡ loadedWhere memA memV at (bytesOf width)
       → StepsParts (Load width widening d a imm) c (parts regs regsV mem memV memA) l w (parts regs′ regsV′ mem memV memA) l₂
   unfolding acted loadStep withRegister cleared reportsOf blocked wayOn outputsOf outputsEntered
-  load-law widening regs′ regsV′ x v r data′ shadow′ p q =
+  load-law widening regs′ regsV′ x v b bV r data′ shadow′ wide wideV p q =
       record {
         taken = λ outputs.
-            taken (Load width widening d a imm) _ _ c u w l l₂ outputs outputs (asked unaddressableLoad r) e (rw (data′, shadow′, p, q, r .clear, r .place) refl) refl;
+            taken (Load width widening d a imm) _ _ c u w l l₂ outputs outputs (asked unaddressableLoad r) e (rw (data′, shadow′, wide, wideV, p, q, r .clear, r .place) refl) refl;
       }
 
   pub store-law : (mem′ memV′ : List ℕ) → Accessed unaddressableStore width a imm regs memA c regsV l at whole u regsV₁ l₂

@@ -72,7 +72,7 @@ fn all_marked(width: Width) -> u32
 }
 
 // Whether every byte of an access is addressable.
-pub fn all_addressable(width: Width, a: &[u8], at: usize) -> bool
+fn marked(width: Width, a: &[u8], at: usize) -> bool
     requires { ⌜ at < 2 ^ 32 ⌝ }
     ensures { λ r. ⌜ r ≡ allAddressable (now (a .entry)) at (bytesOf width) ⌝ }
 {
@@ -80,6 +80,18 @@ pub fn all_addressable(width: Width, a: &[u8], at: usize) -> bool
         return false;
     }
     load_all(width, a, at) == all_marked(width)
+}
+
+// The same. Each case names its width, so that the compiler makes a piece of code for it alone.
+pub fn all_addressable(width: Width, a: &[u8], at: usize) -> bool
+    requires { ⌜ at < 2 ^ 32 ⌝ }
+    ensures { λ r. ⌜ r ≡ allAddressable (now (a .entry)) at (bytesOf width) ⌝ }
+{
+    match width {
+        Width::Byte => marked(Width::Byte, a, at),
+        Width::Half => marked(Width::Half, a, at),
+        Width::Word => marked(Width::Word, a, at),
+    }
 }
 
 // ---- what is loaded
@@ -110,7 +122,7 @@ fn load_some(width: Width, a: &[u8], s: &[u8], at: usize) -> u32
 }
 
 // The same; whole: they are all addressable.
-fn load_bytes(whole: bool, width: Width, a: &[u8], s: &[u8], at: usize) -> u32
+pub fn load(whole: bool, width: Width, a: &[u8], s: &[u8], at: usize) -> u32
     requires { ⌜ (whole ≡ allAddressable (now a) at (bytesOf width)) × (at < 2 ^ 32) × (length (now s) ≡ length (now a)) ⌝ }
     ensures { λ r. ⌜ r ≡ loadedWhere (now (a .entry)) (now (s .entry)) at (bytesOf width) ⌝ }
 {
@@ -120,21 +132,14 @@ fn load_bytes(whole: bool, width: Width, a: &[u8], s: &[u8], at: usize) -> u32
     load_some(width, a, s, at)
 }
 
-fn widen(width: Width, widening: Widening, x: u32) -> u32
+// The word that a load makes of its bytes, of data and of V bits alike.
+pub fn widen(width: Width, widening: Widening, x: u32) -> u32
     ensures { λ r. ⌜ r ≡ widened widening (bytesOf width) x ⌝ }
 {
     match widening {
         Widening::Zero => x,
         Widening::Sign => swiden(size_of(width) as u32, x),
     }
-}
-
-// The word that they make, data or V.
-pub fn load(whole: bool, width: Width, widening: Widening, a: &[u8], s: &[u8], at: usize) -> u32
-    requires { ⌜ (whole ≡ allAddressable (now a) at (bytesOf width)) × (at < 2 ^ 32) × (length (now s) ≡ length (now a)) ⌝ }
-    ensures { λ r. ⌜ r ≡ widened widening (bytesOf width) (loadedWhere (now (a .entry)) (now (s .entry)) at (bytesOf width)) ⌝ }
-{
-    widen(width, widening, load_bytes(whole, width, a, s, at))
 }
 
 // ---- what is written

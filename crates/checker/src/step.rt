@@ -135,8 +135,8 @@ fn checked(
 {
     let place = address(regs, a, imm);
     let at = place as usize;
-    let whole = ranges::all_addressable(width, abits, at);
     let t = use_register(c, kinds::UNDEFINED_ADDRESS, a, shadows, reports);
+    let whole = ranges::all_addressable(width, abits, at);
     let u = use_bytes(t, kind, whole, place, reports);
     Access {
         at: at,
@@ -206,8 +206,10 @@ pub fn load(
         abits,
         reports,
     );
-    let x = Data(ranges::load(found.whole, width, widening, abits, mem, found.at));
-    let v = Shadow(ranges::load(found.whole, width, widening, abits, vbits, found.at));
+    let bytes = ranges::load(found.whole, width, abits, mem, found.at);
+    let bytes_v = ranges::load(found.whole, width, abits, vbits, found.at);
+    let x = Data(ranges::widen(width, widening, bytes));
+    let v = Shadow(ranges::widen(width, widening, bytes_v));
     set_register(d, x, v, regs, shadows);
     counting::next(found.counts)
 }
