@@ -1,10 +1,10 @@
--- Cases of one step, of the stop reasons and of the lists, worked out by hand from document 01, as tables. `cases-hold`, `reasons-hold` and
--- `entries-hold` in proofs/Cases.antt say that the definitions give them. Of 01's pinned cases here are those on a load at the end of
+-- Cases of one step, of the bare machine's loads, of the stop reasons and of the lists, worked out by hand from documents 01 and 02, as
+-- tables. `cases-hold`, `bare-hold`, `reasons-hold` and `entries-hold` in proofs/Cases.antt say that the definitions give them. Of 01's pinned cases here are those on a load at the end of
 -- memory, on an address that wraps, and on budget 0; the rest are ours.
 use Prim.Native.Nat.{ℕ}
 use mathlib.Core.Bool.{true, false}
 use mathlib.Core.List.{List, [], _∷_, _++_}
-use lib.ListN.{replicate}
+use lib.ListN.{getD, replicate}
 use Rattle.rules.specs.Word.{allOnes}
 use Rattle.rules.specs.declared.Operation.the-variants.{Add, Xor}
 use Rattle.image.specs.declared.Operand.the-variants.{Register, Literal}
@@ -15,6 +15,7 @@ use Rattle.image.specs.declared.Instruction.the-variants.{Stop, Move, Compute, 
 use Rattle.machine.specs.Machine.{Parts, parts}
 use Rattle.machine.specs.Instructions.{wayOn, Output, output, outputsOf}
 use Rattle.machine.specs.Steps.{acted, Report, report, reportsOf}
+use Rattle.machine.specs.Bare.{bareParts, bareActed}
 use Rattle.machine.specs.Lists.{entered}
 use Rattle.machine.specs.Runs.{reasonAt}
 
@@ -54,6 +55,10 @@ four regs regsV mem memV = parts regs regsV mem memV (1 ∷ 1 ∷ 1 ∷ 1 ∷ []
 abbrev bytes : List ℕ
 bytes = 0x11 ∷ 0x22 ∷ 0x33 ∷ 0x84 ∷ []
 
+-- 0x80 and 0x7F; the half words 0x7F80 and 0x8000
+abbrev signs : List ℕ
+signs = 0x80 ∷ 0x7F ∷ 0x00 ∷ 0x80 ∷ []
+
 abbrev defined : List ℕ
 defined = 0 ∷ 0 ∷ 0 ∷ 0 ∷ []
 
@@ -84,6 +89,35 @@ cases =
     -- unaddressable bytes in the middle: not loaded, not stored to, one report
     ∷ quietly (Load Word Zero 1 0 0) (parts (0 ∷ 7 ∷ []) (0 ∷ 9 ∷ []) bytes (0xFF ∷ 0xFF ∷ 0xFF ∷ 0xFF ∷ []) (1 ∷ 0 ∷ 0 ∷ 1 ∷ [])) (report 3 0 ∷ []) (parts (0 ∷ 0x8400_0011 ∷ []) (0 ∷ 0xFF00_00FF ∷ []) bytes (0xFF ∷ 0xFF ∷ 0xFF ∷ 0xFF ∷ []) (1 ∷ 0 ∷ 0 ∷ 1 ∷ []))
     ∷ quietly (Store Word 1 0 0) (parts (0 ∷ 0xA1A2_A3A4 ∷ []) (0 ∷ 0x0000_00F0 ∷ []) bytes (0xFF ∷ 0xFF ∷ 0xFF ∷ 0xFF ∷ []) (1 ∷ 0 ∷ 0 ∷ 1 ∷ [])) (report 4 0 ∷ []) (parts (0 ∷ 0xA1A2_A3A4 ∷ []) (0 ∷ 0x0000_00F0 ∷ []) (0xA4 ∷ 0x22 ∷ 0x33 ∷ 0xA1 ∷ []) (0xF0 ∷ 0xFF ∷ 0xFF ∷ 0 ∷ []) (1 ∷ 0 ∷ 0 ∷ 1 ∷ []))
+    -- 02, L1. LDS8 of 0x80 and of 0x7F
+    ∷ quietly (Load Byte Sign 1 0 0) (four (0 ∷ 7 ∷ []) (0 ∷ 9 ∷ []) signs defined) [] (four (0 ∷ 0xFFFF_FF80 ∷ []) (0 ∷ 0 ∷ []) signs defined)
+    ∷ quietly (Load Byte Sign 1 0 1) (four (0 ∷ 7 ∷ []) (0 ∷ 9 ∷ []) signs defined) [] (four (0 ∷ 0x7F ∷ []) (0 ∷ 0 ∷ []) signs defined)
+    -- the top V bit is copied by itself, and the data bit whatever its V
+    ∷ quietly (Load Byte Sign 1 0 0) (four (0 ∷ 7 ∷ []) (0 ∷ 9 ∷ []) signs (0x80 ∷ 0 ∷ 0 ∷ 0 ∷ [])) [] (four (0 ∷ 0xFFFF_FF80 ∷ []) (0 ∷ 0xFFFF_FF80 ∷ []) signs (0x80 ∷ 0 ∷ 0 ∷ 0 ∷ []))
+    ∷ quietly (Load Byte Sign 1 0 0) (four (0 ∷ 7 ∷ []) (0 ∷ 9 ∷ []) signs (0x7F ∷ 0 ∷ 0 ∷ 0 ∷ [])) [] (four (0 ∷ 0xFFFF_FF80 ∷ []) (0 ∷ 0x7F ∷ []) signs (0x7F ∷ 0 ∷ 0 ∷ 0 ∷ []))
+    ∷ quietly (Load Byte Sign 1 0 1) (four (0 ∷ 7 ∷ []) (0 ∷ 9 ∷ []) signs (0 ∷ 0x80 ∷ 0 ∷ 0 ∷ [])) [] (four (0 ∷ 0x7F ∷ []) (0 ∷ 0xFFFF_FF80 ∷ []) signs (0 ∷ 0x80 ∷ 0 ∷ 0 ∷ []))
+    -- LDS16 of 0x8000 with V 0x8000, and with V 0x00FF; of 0x7F80, whose low byte has no say; LD16 of 0x8000
+    ∷ quietly (Load Half Sign 1 0 2) (four (0 ∷ 7 ∷ []) (0 ∷ 9 ∷ []) signs (0 ∷ 0 ∷ 0 ∷ 0x80 ∷ [])) [] (four (0 ∷ 0xFFFF_8000 ∷ []) (0 ∷ 0xFFFF_8000 ∷ []) signs (0 ∷ 0 ∷ 0 ∷ 0x80 ∷ []))
+    ∷ quietly (Load Half Sign 1 0 2) (four (0 ∷ 7 ∷ []) (0 ∷ 9 ∷ []) signs (0 ∷ 0 ∷ 0xFF ∷ 0 ∷ [])) [] (four (0 ∷ 0xFFFF_8000 ∷ []) (0 ∷ 0xFF ∷ []) signs (0 ∷ 0 ∷ 0xFF ∷ 0 ∷ []))
+    ∷ quietly (Load Half Sign 1 0 0) (four (0 ∷ 7 ∷ []) (0 ∷ 9 ∷ []) signs (0x80 ∷ 0 ∷ 0 ∷ 0 ∷ [])) [] (four (0 ∷ 0x7F80 ∷ []) (0 ∷ 0x80 ∷ []) signs (0x80 ∷ 0 ∷ 0 ∷ 0 ∷ []))
+    ∷ quietly (Load Half Zero 1 0 2) (four (0 ∷ 7 ∷ []) (0 ∷ 9 ∷ []) signs (0 ∷ 0 ∷ 0 ∷ 0x80 ∷ [])) [] (four (0 ∷ 0x8000 ∷ []) (0 ∷ 0x8000 ∷ []) signs (0 ∷ 0 ∷ 0 ∷ 0x80 ∷ []))
+    -- an unaddressable byte is data 0, V 0 before widening: above a low byte with its top bit set there is no sign; below a high one there is
+    ∷ quietly (Load Half Sign 1 0 0) (parts (0 ∷ 7 ∷ []) (0 ∷ 9 ∷ []) (0x80 ∷ 0xFF ∷ 0 ∷ 0 ∷ []) (0xFF ∷ 0xFF ∷ 0xFF ∷ 0xFF ∷ []) (1 ∷ 0 ∷ 1 ∷ 1 ∷ [])) (report 3 0 ∷ []) (parts (0 ∷ 0x80 ∷ []) (0 ∷ 0xFF ∷ []) (0x80 ∷ 0xFF ∷ 0 ∷ 0 ∷ []) (0xFF ∷ 0xFF ∷ 0xFF ∷ 0xFF ∷ []) (1 ∷ 0 ∷ 1 ∷ 1 ∷ []))
+    ∷ quietly (Load Half Sign 1 0 0) (parts (0 ∷ 7 ∷ []) (0 ∷ 9 ∷ []) (0xFF ∷ 0x80 ∷ 0 ∷ 0 ∷ []) (0xFF ∷ 0x80 ∷ 0 ∷ 0 ∷ []) (0 ∷ 1 ∷ 1 ∷ 1 ∷ [])) (report 3 0 ∷ []) (parts (0 ∷ 0xFFFF_8000 ∷ []) (0 ∷ 0xFFFF_8000 ∷ []) (0xFF ∷ 0x80 ∷ 0 ∷ 0 ∷ []) (0xFF ∷ 0x80 ∷ 0 ∷ 0 ∷ []) (0 ∷ 1 ∷ 1 ∷ 1 ∷ []))
+    ∷ quietly (Load Byte Sign 1 0 2) (parts (0 ∷ 7 ∷ []) (0 ∷ 9 ∷ []) (0 ∷ 0 ∷ 0xFF ∷ 0 ∷ []) (0xFF ∷ 0xFF ∷ 0xFF ∷ 0xFF ∷ []) (1 ∷ 1 ∷ 0 ∷ 1 ∷ [])) (report 3 2 ∷ []) (parts (0 ∷ 0 ∷ []) (0 ∷ 0 ∷ []) (0 ∷ 0 ∷ 0xFF ∷ 0 ∷ []) (0xFF ∷ 0xFF ∷ 0xFF ∷ 0xFF ∷ []) (1 ∷ 1 ∷ 0 ∷ 1 ∷ []))
+    -- LD16 at M - 2, at M - 1 and at 0xFFFFFFFF, whose byte 1 is not byte 0 of memory; LDS16 at M - 1
+    ∷ quietly (Load Half Zero 1 0 0) (four (2 ∷ 7 ∷ []) (0 ∷ 9 ∷ []) bytes defined) [] (four (2 ∷ 0x8433 ∷ []) (0 ∷ 0 ∷ []) bytes defined)
+    ∷ quietly (Load Half Zero 1 0 0) (four (3 ∷ 7 ∷ []) (0 ∷ 9 ∷ []) bytes defined) (report 3 3 ∷ []) (four (3 ∷ 0x84 ∷ []) (0 ∷ 0 ∷ []) bytes defined)
+    ∷ quietly (Load Half Zero 1 0 0) (four (0xFFFF_FFFF ∷ 7 ∷ []) (0 ∷ 9 ∷ []) bytes defined) (report 3 0xFFFF_FFFF ∷ []) (four (0xFFFF_FFFF ∷ 0 ∷ []) (0 ∷ 0 ∷ []) bytes defined)
+    ∷ quietly (Load Half Sign 1 0 0) (four (3 ∷ 7 ∷ []) (0 ∷ 9 ∷ []) bytes (0 ∷ 0 ∷ 0 ∷ 0x80 ∷ [])) (report 3 3 ∷ []) (four (3 ∷ 0x84 ∷ []) (0 ∷ 0x80 ∷ []) bytes (0 ∷ 0 ∷ 0 ∷ 0x80 ∷ []))
+    -- ST16 stores the low two bytes, and of these the addressable ones: inside, across the end, at 0xFFFFFFFF, and beside an unaddressable byte
+    ∷ quietly (Store Half 1 0 0) (four (1 ∷ 0x8765_4321 ∷ []) (0 ∷ 0xF00F_80FE ∷ []) bytes defined) [] (four (1 ∷ 0x8765_4321 ∷ []) (0 ∷ 0xF00F_80FE ∷ []) (0x11 ∷ 0x21 ∷ 0x43 ∷ 0x84 ∷ []) (0 ∷ 0xFE ∷ 0x80 ∷ 0 ∷ []))
+    ∷ quietly (Store Half 1 0 0) (four (3 ∷ 0x8765_4321 ∷ []) (0 ∷ 0xF00F_80FE ∷ []) bytes defined) (report 4 3 ∷ []) (four (3 ∷ 0x8765_4321 ∷ []) (0 ∷ 0xF00F_80FE ∷ []) (0x11 ∷ 0x22 ∷ 0x33 ∷ 0x21 ∷ []) (0 ∷ 0 ∷ 0 ∷ 0xFE ∷ []))
+    ∷ quietly (Store Half 1 0 0) (four (0xFFFF_FFFF ∷ 0x8765_4321 ∷ []) (0 ∷ 0xF00F_80FE ∷ []) bytes defined) (report 4 0xFFFF_FFFF ∷ []) (four (0xFFFF_FFFF ∷ 0x8765_4321 ∷ []) (0 ∷ 0xF00F_80FE ∷ []) bytes defined)
+    ∷ quietly (Store Half 1 0 0) (parts (0 ∷ 0x8765_4321 ∷ []) (0 ∷ 0xF00F_80FE ∷ []) bytes defined (0 ∷ 1 ∷ 1 ∷ 1 ∷ [])) (report 4 0 ∷ []) (parts (0 ∷ 0x8765_4321 ∷ []) (0 ∷ 0xF00F_80FE ∷ []) (0x11 ∷ 0x43 ∷ 0x33 ∷ 0x84 ∷ []) (0 ∷ 0x80 ∷ 0 ∷ 0 ∷ []) (0 ∷ 1 ∷ 1 ∷ 1 ∷ []))
+    -- an undefined address: reported and cleared first, also where d is a
+    ∷ quietly (Load Half Sign 0 0 0) (four (2 ∷ 7 ∷ []) (0x10 ∷ 9 ∷ []) signs (0 ∷ 0 ∷ 1 ∷ 0x80 ∷ [])) (report 1 0x10 ∷ []) (four (0xFFFF_8000 ∷ 7 ∷ []) (0xFFFF_8001 ∷ 9 ∷ []) signs (0 ∷ 0 ∷ 1 ∷ 0x80 ∷ []))
+    ∷ quietly (Store Half 0 0 0) (four (1 ∷ 7 ∷ []) (allOnes ∷ 9 ∷ []) bytes (1 ∷ 1 ∷ 1 ∷ 1 ∷ [])) (report 1 0xFFFF_FFFF ∷ []) (four (1 ∷ 7 ∷ []) (0 ∷ 9 ∷ []) (0x11 ∷ 1 ∷ 0 ∷ 0x84 ∷ []) (1 ∷ 0 ∷ 0 ∷ 1 ∷ []))
     -- JNZ goes by the data, reported or not
     ∷ case (Jump 0 2) (four (8 ∷ 7 ∷ []) (8 ∷ 9 ∷ []) bytes defined) (report 2 8 ∷ []) [] (four (8 ∷ 7 ∷ []) (0 ∷ 9 ∷ []) bytes defined) 2
     ∷ case (Jump 0 2) (four (0 ∷ 7 ∷ []) (8 ∷ 9 ∷ []) bytes defined) (report 2 8 ∷ []) [] (four (0 ∷ 7 ∷ []) (0 ∷ 9 ∷ []) bytes defined) 6
@@ -101,6 +135,29 @@ cases =
     ∷ quietly (Compute Xor 1 0 (Register 0)) (four (8 ∷ 7 ∷ []) (0x100 ∷ 0 ∷ []) bytes defined) [] (four (8 ∷ 0 ∷ []) (0x100 ∷ 0 ∷ []) bytes defined)
     ∷ quietly (Compute Xor 1 0 (Literal (record { 0 = 8 }))) (four (8 ∷ 7 ∷ []) (0x100 ∷ 0 ∷ []) bytes defined) [] (four (8 ∷ 0 ∷ []) (0x100 ∷ 0x100 ∷ []) bytes defined)
     ∷ []
+
+-- ---- what the bare machine loads: the same data, widened alike, as no bit of its own is undefined
+pub record BareCase : Type 0 where
+  pub does : Instruction
+  pub value : ℕ
+
+abbrev bareCase : Instruction → ℕ → BareCase
+bareCase i value = record { does = i; value = value }
+
+-- register 1, from the bytes `signs`; register 0 is 0
+abbrev pub bareCases : List BareCase
+bareCases =
+    bareCase (Load Byte Zero 1 0 0) 0x80
+    ∷ bareCase (Load Byte Sign 1 0 0) 0xFFFF_FF80
+    ∷ bareCase (Load Byte Sign 1 0 1) 0x7F
+    ∷ bareCase (Load Half Zero 1 0 2) 0x8000
+    ∷ bareCase (Load Half Sign 1 0 2) 0xFFFF_8000
+    ∷ bareCase (Load Half Sign 1 0 0) 0x7F80
+    ∷ bareCase (Load Word Zero 1 0 0) 0x8000_7F80
+    ∷ []
+
+abbrev pub bareGiven : BareCase → ℕ
+bareGiven c = getD (bareActed (c .does) (bareParts (0 ∷ 7 ∷ []) signs (1 ∷ 1 ∷ 1 ∷ 1 ∷ [])) .regs) 1 0
 
 -- ---- the stop reasons, in a program of one instruction
 pub record ReasonCase : Type 0 where

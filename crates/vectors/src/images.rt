@@ -96,7 +96,7 @@ const CHANGES: [Change; CHANGED] = [
     Change(20, 65, 20, 65), // regions at 65
     Change(28, 77, 28, 77), // data at 77
     Change(28, 76, 30, 1), // an offset with a high byte
-    Change(32, 21, 32, 21), // instruction 0: op 21
+    Change(32, 25, 32, 25), // instruction 0: op 25
     Change(43, 1, 43, 1), // instruction 1: LD32 with b 1
     Change(52, 8, 52, 8), // instruction 2: port 8
     Change(60, 1, 60, 1), // instruction 3: STOP with imm 1
@@ -109,7 +109,7 @@ const CHANGES: [Change; CHANGED] = [
     Change(72, 1, 72, 1), // region filled, without data
     Change(0, 0x55, 4, 0), // refusals 2 and 3
     Change(4, 0, 12, 33), // 3 and 4
-    Change(12, 33, 32, 21), // 4 and 5
+    Change(12, 33, 32, 25), // 4 and 5
     Change(60, 1, 72, 3), // 5 and 6
     Change(60, 1, 72, 1), // 5 and 7
     Change(64, 13, 72, 1), // 6 and 7
@@ -276,7 +276,7 @@ pub fn largest() {
     read_front(b"8608 bytes", &image, 8_608);
     read_front(b"8609 bytes", &image, 8_609);
     read_front(b"8607 bytes", &image, 8_607);
-    put(&mut image, 4_120, 21);
+    put(&mut image, 4_120, 25);
     read_front(b"8608 bytes, instruction 511 at fault", &image, 8_608);
     put(&mut image, 4_120, 0);
     put(&mut image, 4_508, 3);

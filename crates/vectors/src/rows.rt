@@ -5,6 +5,7 @@ use super::show::word;
 use image::Decoded;
 use image::Instruction;
 use image::Operand;
+use image::Widening;
 use image::Width;
 use rules::Operation;
 
@@ -38,12 +39,20 @@ fn operand(b: Operand) {
 fn width(w: Width) {
     match w {
         Width::Byte => text(b"8"),
+        Width::Half => text(b"16"),
         Width::Word => text(b"32"),
     }
 }
 
-fn access(kind: &[u8], w: Width, d: u8, a: u8, imm: u32) {
-    text(kind);
+fn load(widening: Widening) {
+    match widening {
+        Widening::Zero => text(b"LD"),
+        Widening::Sign => text(b"LDS"),
+    }
+}
+
+// The rest of a load or store.
+fn access(w: Width, d: u8, a: u8, imm: u32) {
     width(w);
     number(b" d ", d as usize);
     number(b" a ", a as usize);
@@ -75,16 +84,23 @@ fn instruction(i: Instruction) {
         }
         Instruction::Load {
             width: w,
+            widening,
             d,
             a,
             imm,
-        } => access(b"LD", w, d, a, imm),
+        } => {
+            load(widening);
+            access(w, d, a, imm);
+        }
         Instruction::Store {
             width: w,
             d,
             a,
             imm,
-        } => access(b"ST", w, d, a, imm),
+        } => {
+            text(b"ST");
+            access(w, d, a, imm);
+        }
         Instruction::Jump { a, target } => {
             number(b"JNZ a ", a as usize);
             number(b" to ", target as usize);
@@ -109,14 +125,14 @@ pub fn decoded(x: Decoded) {
     text(b"\n");
 }
 
-const CASES: usize = 64;
+const FIRST: usize = 60;
 
 // op, d, a, b and imm.
 struct Fields(u8, u8, u8, u8, u32);
 
-// Every row at the ends of its fields; then one step past an end, an unused field that is not 0, an
-// op with no row.
-const TABLE: [Fields; CASES] = [
+// Every row of document 01 at the ends of its fields; then one step past an end, and an unused field
+// that is not 0.
+const TABLE: [Fields; FIRST] = [
     Fields(0, 0, 0, 0, 0),
     Fields(1, 15, 0, 15, 0),
     Fields(1, 0, 0, 255, 0xdead_beef),
@@ -177,11 +193,40 @@ const TABLE: [Fields; CASES] = [
     Fields(20, 0, 0, 0, 0x0010_0001),
     Fields(20, 0, 1, 0, 0x0001_0000),
     Fields(20, 0, 0, 1, 0x0001_0000),
-    Fields(21, 0, 0, 0, 0),
-    Fields(22, 0, 0, 0, 0),
+];
+
+const CASES: usize = 76;
+
+// The same of request L1's rows, and ops with no row.
+const ADDED: [Fields; 16] = [
+    Fields(21, 15, 0, 0, 0xffff_ffff),
+    Fields(22, 0, 15, 0, 0),
+    Fields(23, 15, 15, 0, 0x8000_0000),
+    Fields(24, 0, 15, 0, 1),
+    Fields(21, 16, 0, 0, 0),
+    Fields(21, 0, 0, 255, 0),
+    Fields(22, 0, 16, 0, 0),
+    Fields(22, 0, 0, 1, 0),
+    Fields(23, 255, 0, 0, 0),
+    Fields(23, 0, 0, 1, 0),
+    Fields(24, 0, 16, 0, 0),
+    Fields(24, 0, 0, 1, 0),
+    Fields(25, 0, 0, 0, 0),
+    Fields(26, 0, 0, 0, 0),
     Fields(128, 0, 0, 0, 0),
     Fields(255, 0, 0, 0, 0),
 ];
+
+// Row i of both; beyond them the first.
+fn fields(i: usize) -> Fields {
+    if i < FIRST {
+        TABLE[i]
+    } else if i < CASES {
+        ADDED[i - FIRST]
+    } else {
+        TABLE[0]
+    }
+}
 
 // Index 1 of an image of 4 instructions and 16 bytes of memory.
 fn row(f: Fields) {
@@ -207,7 +252,7 @@ fn row(f: Fields) {
 pub fn table() {
     let mut i = 0;
     while i < CASES {
-        row(TABLE[i]);
+        row(fields(i));
         i += 1;
     }
 }

@@ -1,6 +1,7 @@
 // Cases on words. Each line is one case, in hexadecimal: operands with their V words, "same" where
 // both are one register, then the result's data and V word.
 use super::rows;
+use super::show::number;
 use super::show::text;
 use super::show::word;
 use rules::Data;
@@ -222,10 +223,26 @@ fn bytes(b0: u8, b1: u8, b2: u8, b3: u8) {
     text(b"\n");
 }
 
-// What has no two operands: Left, MOV and the bytes of a word.
+fn swiden(size: u32, x: u32) {
+    let z = rules::bytes::swiden(size, x);
+    number(b"SWiden of ", size as usize);
+    word(b" bytes ", x);
+    word(b": ", z);
+    text(b"\n");
+}
+
+// What has no two operands: Left, MOV, the bytes of a word, and their sign.
 pub fn others() {
     left(0);
     left(0x8000_0000);
     mov(0xdead_beef, 0x0f0f_0f0f);
     bytes(0xaa, 0xbb, 0xcc, 0xdd);
+    swiden(1, 0x80);
+    swiden(1, 0x7f);
+    swiden(2, 0x8000);
+    swiden(2, 0x7f80);
+    swiden(2, 0xff);
+    swiden(3, 0x0080_0000);
+    swiden(4, 0x8000_0000);
+    swiden(5, 0xffff_ffff);
 }
