@@ -50,7 +50,7 @@ ones-word : (n : ℕ) → n ≤ 4 → 2 ^ (8 * n) - 1 < 2 ^ 32
 ones-word n few = lt-of-lt-of-le (ones-lt (8 * n)) (pow-mono {j = 32} (omega arith))
 
 swiden-lt : (n x : ℕ) → n ≤ 4 → x < 2 ^ (8 * n) → SWiden n x < 2 ^ 32
-swiden-lt n x few h = or-lt 32 x (copies (8 * n - 1) (above n) x) (lt-of-lt-of-le h (pow-mono {j = 32} (omega arith))) (copies-lt (8 * n - 1) x (omega arith))
+swiden-lt n x few h = or-lt 32 x _ (lt-of-lt-of-le h (pow-mono {j = 32} (omega arith))) (copies-lt _ x (omega arith))
 
 -- four bytes and more leave no new places
 pub swiden-whole : (n x : ℕ) → 4 ≤ n → x ≡ SWiden n x
