@@ -1,5 +1,6 @@
 #!/bin/sh
-# Measures Memcheck's V bits with vbits.c and compares them with the checker's.
+# Measures Memcheck's V bits with vbits.c and its reports with events.c, and compares both with
+# the checker's.
 # Usage: run.sh PROGRAM   PROGRAM is the built memcheck.
 set -eu
 here=$(cd "$(dirname "$0")" && pwd)
@@ -15,7 +16,7 @@ fi
 
 work=$(mktemp -d)
 trap 'rm -rf "$work"' EXIT
-gcc -O1 -g -Wall -Wextra -Werror -o "$work/vbits" "$here/vbits.c"
+gcc -O1 -g -Wall -Wextra -Werror -o "$work/vbits" "$here/vbits.c" "$here/events.c"
 
 # measure NAME WHAT OPTION...: vbits' lines (all, or the events alone) go to NAME, reports to a log.
 measure() {

@@ -1,12 +1,12 @@
 /* Performs each of the checker's operations on partly undefined words with the processor's own
  * instruction under Memcheck, and prints what Memcheck makes of the V bits, one line per case. */
-#include <fcntl.h>
 #include <stdint.h>
 #include <stdio.h>
 #include <stdlib.h>
 #include <string.h>
-#include <unistd.h>
 #include <valgrind/memcheck.h>
+
+#include "vbits.h"
 
 /* The words of a case: x and y side by side are also the memory that loads read, r that stores
  * write. An operation takes x (and y), at the byte offset for loads and stores, and leaves r. */
@@ -66,14 +66,25 @@ typedef void (*Operation)(struct Words *);
     kind##_LITERALS(LITERAL_FUNCTION, name, instruction, result)
 OPERATIONS(FUNCTIONS)
 
-#define MEMORY_FUNCTION(function, instructions)                                      \
-    static void function(struct Words *c) {                                          \
-        __asm__ volatile(instructions : : "r"(c), "r"(c->offset) : "eax", "memory"); \
+/* name, bytes, direction, instruction (a store's with its register). */
+#define ACCESSES(X)                 \
+    X(LD8, 1, LOAD, "movzbl ")      \
+    X(LD32, 4, LOAD, "movl ")       \
+    X(ST8, 1, STORE, "movb %%al")   \
+    X(ST32, 4, STORE, "movl %%eax") \
+    X(LD16, 2, LOAD, "movzwl ")     \
+    X(LDS8, 1, LOAD, "movsbl ")     \
+    X(LDS16, 2, LOAD, "movswl ")    \
+    X(ST16, 2, STORE, "movw %%ax")
+
+#define LOAD_BY(instruction) instruction "(%0,%1),%%eax\n\tmovl %%eax,8(%0)"
+#define STORE_BY(instruction) "movl (%0),%%eax\n\t" instruction ",8(%0,%1)"
+#define ACCESS_FUNCTION(name, bytes, direction, instruction)             \
+    static void name##_at(struct Words *c) {                             \
+        __asm__ volatile(direction##_BY(instruction)                     \
+                         : : "r"(c), "r"(c->offset) : "eax", "memory");  \
     }
-MEMORY_FUNCTION(LD8_at, "movzbl (%0,%1),%%eax\n\tmovl %%eax,8(%0)")
-MEMORY_FUNCTION(LD32_at, "movl (%0,%1),%%eax\n\tmovl %%eax,8(%0)")
-MEMORY_FUNCTION(ST8_at, "movl (%0),%%eax\n\tmovb %%al,8(%0,%1)")
-MEMORY_FUNCTION(ST32_at, "movl (%0),%%eax\n\tmovl %%eax,8(%0,%1)")
+ACCESSES(ACCESS_FUNCTION)
 
 struct Literal {
     uint32_t value;
@@ -94,20 +105,19 @@ struct Entry {
 OPERATIONS(LITERAL_TABLE)
 
 enum { WORD, COUNT };
-#define LENGTH(array) (sizeof(array) / sizeof((array)[0]))
 #define ENTRY(name, instruction, kind, result) \
     {#name, kind, name##_pair, name##_same, name##_literals, LENGTH(name##_literals)},
 static const struct Entry operations[] = {OPERATIONS(ENTRY)};
 
 /* Loads and stores: places is the number of offsets within the eight bytes. */
+enum { LOAD, STORE };
+#define ACCESS_ROW(name, bytes, direction, instruction) {#name, name##_at, 9 - bytes, direction},
 static const struct {
     const char *name;
     Operation apply;
     uint32_t places;
     int is_store;
-} accesses[] = {
-    {"LD8", LD8_at, 8, 0}, {"LD32", LD32_at, 5, 0}, {"ST8", ST8_at, 8, 1}, {"ST32", ST32_at, 5, 1},
-};
+} accesses[] = {ACCESSES(ACCESS_ROW)};
 
 /* Operands: data x, y and their V words v, w. */
 struct Operands {
@@ -204,7 +214,7 @@ static void put_hex(uint64_t word, int digits) {
         putchar_unlocked("0123456789abcdef"[word >> shift & 15]);
 }
 
-static void require(int answer, const char *what) {
+void require(int answer, const char *what) {
     if (answer == 1) return;
     fprintf(stderr, "%s answered %d: run this under valgrind --tool=memcheck\n", what, answer);
     exit(3);
@@ -260,125 +270,6 @@ static void run_access(size_t which, const struct List *pairs) {
     }
 }
 
-/* What an event works on: pointer leads to memory, value is an operand; result, kept and memory
- * are looked at afterwards. */
-struct Scene {
-    uint64_t pointer, kept;
-    uint32_t value, result, memory[2];
-};
-
-#define SCENE_FUNCTION(function, instructions)                            \
-    static void function(struct Scene *s) {                               \
-        __asm__ volatile(instructions "\n" : : "r"(s)                     \
-                         : "rax", "rcx", "rdx", "cc", "memory");          \
-    }
-#define POINTER "movq (%0),%%rax\n\t"
-#define LOAD "movl (%%rax),%%ecx\n\t"
-#define KEEP "movq %%rax,8(%0)\n\t"
-#define VALUE "movl 16(%0),%%ecx\n\t"
-#define RESULT "movl %%ecx,20(%0)\n\t"
-#define ZERO "cmpl $0,%%ecx\n\tsete %%cl\n\tmovzbl %%cl,%%ecx\n\t"
-#define ADDED "addl $16,%%ecx\n\tshrl $16,%%ecx\n\t"
-#define LESS "subl $16,%%ecx\n\tshrl $16,%%ecx\n\t"
-#define JUMP "testl %%ecx,%%ecx\n\tjnz 1f\n\tnop\n1:\n\t"
-#define NEXT_BLOCK "leaq 1f(%%rip),%%rdx\n\tjmp *%%rdx\n1:\n\t"
-SCENE_FUNCTION(copy, VALUE "movl %%ecx,%%eax\n\tmovl %%eax,%%ecx\n\t" RESULT)
-SCENE_FUNCTION(load, POINTER LOAD RESULT)
-SCENE_FUNCTION(load_byte, POINTER "movzbl (%%rax),%%ecx\n\t" RESULT)
-SCENE_FUNCTION(store, POINTER VALUE "movl %%ecx,(%%rax)")
-SCENE_FUNCTION(store_byte, POINTER VALUE "movb %%cl,(%%rax)")
-SCENE_FUNCTION(load_keep, POINTER LOAD KEEP)
-SCENE_FUNCTION(load_keep_later, POINTER LOAD NEXT_BLOCK KEEP)
-SCENE_FUNCTION(load_past_keep, POINTER "movl 4(%%rax),%%ecx\n\t" KEEP)
-SCENE_FUNCTION(load_twice, POINTER LOAD LOAD KEEP)
-SCENE_FUNCTION(load_twice_later, POINTER LOAD NEXT_BLOCK LOAD KEEP)
-SCENE_FUNCTION(jump, VALUE JUMP RESULT)
-SCENE_FUNCTION(jump_twice, VALUE JUMP JUMP RESULT)
-SCENE_FUNCTION(compare_jump, VALUE ZERO JUMP RESULT)
-SCENE_FUNCTION(add_jump, VALUE ADDED JUMP RESULT)
-SCENE_FUNCTION(sub_jump, VALUE LESS JUMP RESULT)
-SCENE_FUNCTION(load_jump, POINTER LOAD JUMP RESULT)
-
-static void output(struct Scene *s) {
-    int sink = open("/dev/null", O_WRONLY);
-    if (write(sink, &s->value, sizeof s->value) != sizeof s->value || close(sink)) abort();
-}
-
-static void output_twice(struct Scene *s) {
-    output(s);
-    output(s);
-}
-
-static void reopen(struct Scene *s) {
-    (void)VALGRIND_MAKE_MEM_NOACCESS(s->memory, sizeof s->memory[0]);
-    (void)VALGRIND_MAKE_MEM_UNDEFINED(s->memory, sizeof s->memory[0]);
-    load(s);
-}
-
-/* The pointer leads to memory plus offset, its low V bits are pointer_v; memory has a hole of
- * unaddressable bytes. Looked at is the word at look. */
-enum Look { KEPT = 8, GIVEN = 16, LOADED = 20, STORED = 24 };
-static const struct Event {
-    const char *name;
-    void (*happen)(struct Scene *);
-    enum Look look;
-    uint32_t pointer_v, value_v, offset, hole_at, hole;
-} events[] = {
-    {"copy", copy, LOADED, 0, 0x00FF0F01, 0, 0, 0},
-    {"address-load", load, LOADED, 0x10, 0, 0, 0, 0},
-    {"address-store", store, STORED, 0x10, 0x00FF0F01, 0, 0, 0},
-    {"address-kept", load_keep, KEPT, 0x10, 0, 0, 0, 0},
-    {"address-kept-later", load_keep_later, KEPT, 0x10, 0, 0, 0, 0},
-    {"address-kept-offset", load_past_keep, KEPT, 0x10, 0, 0, 0, 0},
-    {"address-twice", load_twice, KEPT, 0x10, 0, 0, 0, 0},
-    {"address-twice-later", load_twice_later, KEPT, 0x10, 0, 0, 0, 0},
-    {"jump", jump, LOADED, 0, 0xFFFFFFFF, 0, 0, 0},
-    {"jump-twice", jump_twice, LOADED, 0, 0xFFFFFFFF, 0, 0, 0},
-    {"jump-decided", jump, LOADED, 0, 0x10, 0, 0, 0},
-    {"compare-jump-decided", compare_jump, LOADED, 0, 0x10, 0, 0, 0},
-    {"add-jump-stopped", add_jump, LOADED, 0, 0x10, 0, 0, 0},
-    {"sub-jump-stopped", sub_jump, LOADED, 0, 0x10, 0, 0, 0},
-    {"output", output, GIVEN, 0, 0x10, 0, 0, 0},
-    {"output-twice", output_twice, GIVEN, 0, 0x10, 0, 0, 0},
-    {"unaddressable-load-byte", load_byte, LOADED, 0, 0, 0, 0, 1},
-    {"unaddressable-load", load, LOADED, 0, 0, 0, 0, 4},
-    {"unaddressable-load-jump", load_jump, LOADED, 0, 0, 0, 0, 4},
-    {"partly-unaddressable-load", load, LOADED, 0, 0, 0, 2, 2},
-    {"partly-unaddressable-unaligned", load, LOADED, 0, 0, 2, 4, 4},
-    {"unaddressable-store-byte", store_byte, STORED, 0, 0x01, 0, 0, 1},
-    {"unaddressable-store", store, STORED, 0, 0x00FF0F01, 0, 0, 4},
-    {"reopened-load", reopen, LOADED, 0, 0, 0, 0, 0},
-    {"partly-unaddressable-store", store, STORED, 0, 0x00FF0F01, 0, 2, 2},
-};
-
-/* Reports made while it happens. */
-static unsigned errors_of(const struct Event *e, struct Scene *s) {
-    unsigned before = VALGRIND_COUNT_ERRORS;
-    e->happen(s);
-    return VALGRIND_COUNT_ERRORS - before;
-}
-
-/* Prints one event's line: errors reported, V and data of the word looked at (V 0 for bytes that
- * were unaddressable, data 0 for a pointer), and what was given. */
-static void run_event(const struct Event *e) {
-    static const struct Scene start = {0, 0, 0x89ABCDEF, 0, {0x44332211, 0x88776655}};
-    static struct Scene s;
-    uint32_t pointer_v[2] = {e->pointer_v, 0}, v, *word = (uint32_t *)((char *)&s + e->look);
-    char *memory = (char *)s.memory;
-    s = start;
-    s.pointer = (uintptr_t)(memory + e->offset);
-    require(VALGRIND_SET_VBITS(&s.pointer, pointer_v, sizeof pointer_v), "VALGRIND_SET_VBITS");
-    require(VALGRIND_SET_VBITS(&s.value, &e->value_v, sizeof e->value_v), "VALGRIND_SET_VBITS");
-    (void)VALGRIND_MAKE_MEM_NOACCESS(memory + e->hole_at, e->hole);
-    unsigned errors = errors_of(e, &s);
-    (void)VALGRIND_MAKE_MEM_DEFINED(memory + e->hole_at, e->hole);
-    require(VALGRIND_GET_VBITS(word, &v, sizeof v), "VALGRIND_GET_VBITS");
-    (void)VALGRIND_MAKE_MEM_DEFINED(&s, sizeof s);
-    printf("event %s errors %x v %x data %x", e->name, errors, v, e->look == KEPT ? 0 : *word);
-    printf(" given value %x v %x memory %x %x offset %x v %x hole %x %x\n", start.value, e->value_v,
-           start.memory[0], start.memory[1], e->offset, e->pointer_v, e->hole_at, e->hole);
-}
-
 static struct List pairs, few, shifts;
 
 static void run_operations(void) {
@@ -398,7 +289,6 @@ static void run_operations(void) {
 /* With the argument "events", prints the events alone. */
 int main(int count, char **arguments) {
     if (count < 2 || strcmp(arguments[1], "events") != 0) run_operations();
-    for (size_t i = 0; i < LENGTH(events); i++)
-        run_event(&events[i]);
+    run_events();
     return 0;
 }

@@ -1,5 +1,5 @@
-//! Document 01's bare machine: the image run on data alone, with no V bits and no reports.
-//! It is only ever given an image that the machine accepted.
+//! Document 01's bare machine, with the ops of document 02's request L1: the image run on data alone, with
+//! no V bits and no reports. It is only ever given an image that the machine accepted.
 
 /// The most outputs a machine has places for.
 const MOST_OUTPUTS: usize = 256;
@@ -19,6 +19,11 @@ pub struct Bare {
 /// The little-endian word at a byte offset.
 fn number(bytes: &[u8], at: usize) -> usize {
     u32::from_le_bytes([bytes[at], bytes[at + 1], bytes[at + 2], bytes[at + 3]]) as usize
+}
+
+/// The little-endian half word at a byte offset.
+fn half(bytes: &[u8], at: usize) -> u16 {
+    u16::from_le_bytes([bytes[at], bytes[at + 1]])
 }
 
 impl Bare {
@@ -87,16 +92,25 @@ impl Bare {
             10 => self.regs[d] = ((first as i32) >> (second % 32)) as u32,
             11 => self.regs[d] = u32::from(first == second),
             12 => self.regs[d] = u32::from(first < second),
-            13..=16 => {
-                let size = if op == 13 || op == 15 { 1 } else { 4 };
+            13..=16 | 21..=24 => {
+                let size = match op {
+                    13 | 15 | 22 => 1,
+                    14 | 16 => 4,
+                    _ => 2,
+                };
                 let Some(at) = self.access(first.wrapping_add(imm), size) else {
                     return false;
                 };
+                let word = self.regs[d];
                 match op {
                     13 => self.regs[d] = u32::from(self.mem[at]),
                     14 => self.regs[d] = number(&self.mem, at) as u32,
-                    15 => self.mem[at] = self.regs[d] as u8,
-                    _ => self.mem[at..at + 4].copy_from_slice(&self.regs[d].to_le_bytes()),
+                    15 => self.mem[at] = word as u8,
+                    16 => self.mem[at..at + 4].copy_from_slice(&word.to_le_bytes()),
+                    21 => self.regs[d] = u32::from(half(&self.mem, at)),
+                    22 => self.regs[d] = self.mem[at] as i8 as u32,
+                    23 => self.regs[d] = half(&self.mem, at) as i16 as u32,
+                    _ => self.mem[at..at + 2].copy_from_slice(&(word as u16).to_le_bytes()),
                 }
             }
             17 => {

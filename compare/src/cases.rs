@@ -168,8 +168,8 @@ fn from_state(prng: &mut Prng, image: &Image) -> Case {
 }
 
 /// Runs of one step each, from words of which few bits are undefined or none.
-fn sums_one_by_one(prng: &mut Prng) -> Case {
-    let image = programs::sums(prng);
+fn one_by_one(prng: &mut Prng, maker: Maker) -> Case {
+    let image = maker(prng);
     let mut case = from_state(prng, &image);
     for v in &mut case.desk.state.vregs {
         match prng.below(3) {
@@ -180,6 +180,17 @@ fn sums_one_by_one(prng: &mut Prng) -> Case {
     }
     case.calls.truncate(1);
     case.calls.resize(1 + prng.between(1, 8) as usize, Call::Run(Budget::Exactly(1)));
+    case
+}
+
+/// The same of half words and signed loads, with most addresses those in their rows.
+fn half_words_one_by_one(prng: &mut Prng) -> Case {
+    let mut case = one_by_one(prng, programs::half_words);
+    for word in &mut case.desk.state.regs {
+        if !prng.one_in(3) {
+            *word = 0;
+        }
+    }
     case
 }
 
@@ -247,9 +258,10 @@ pub struct Kind {
     pub make: fn(&mut Prng) -> Case,
 }
 
-pub const KINDS: [Kind; 14] = [
+pub const KINDS: [Kind; 15] = [
     Kind { name: "straight arithmetic", share: 14, make: |p| of_program(p, programs::straight) },
-    Kind { name: "sums one by one", share: 8, make: sums_one_by_one },
+    Kind { name: "sums one by one", share: 8, make: |p| one_by_one(p, programs::sums) },
+    Kind { name: "half words one by one", share: 8, make: half_words_one_by_one },
     Kind { name: "loads and stores", share: 14, make: |p| of_program(p, programs::accesses) },
     Kind { name: "OPEN and CLOSE", share: 8, make: |p| of_program(p, programs::ranges) },
     Kind { name: "jumps", share: 8, make: |p| of_program(p, programs::jumps) },

@@ -1,6 +1,7 @@
 //! Demand 3 tried from outside: the checker and the bare machine side by side, with other leftovers.
 
 mod clause;
+mod tally;
 
 use std::fmt;
 
@@ -16,6 +17,7 @@ use crate::programs::{self, Maker};
 use crate::types::Engine;
 
 pub use clause::{Broken, Clause, CLAUSES};
+pub use tally::Tally;
 
 const STREAM: u64 = 2;
 /// Calls after which a series is long enough.
@@ -24,11 +26,6 @@ const MOST_CALLS: u32 = 1200;
 const MOST_REFUSED: u32 = 20;
 /// Calls after the first report, to see that the count of reports does not go back to 0.
 const MOST_REPORTED: u32 = 3;
-/// A program is counted under the highest of these step counts that it reached without a report.
-const STEP_MARKS: [u32; 5] = [0, 1, 12, 48, 200];
-/// The ops whose rules L4 and L13 made finer, and the planted faults that have document 01's instead.
-const FINER: [(&str, &str); 3] =
-    [("EQ", "eq_of_document_01"), ("ADD", "add_of_document_01"), ("SUB", "sub_of_document_01")];
 
 const ANY_PROGRAM: [Maker; 6] = [
     programs::straight,
@@ -38,88 +35,6 @@ const ANY_PROGRAM: [Maker; 6] = [
     programs::jumps,
     programs::legal,
 ];
-
-/// What was tried, to show that the claim was not empty.
-#[derive(Default)]
-pub struct Tally {
-    pub programs: u64,
-    pub looks: u64,
-    /// Looks at which undefined bits differ between the two machines.
-    differing: u64,
-    clean: [u64; STEP_MARKS.len()],
-    stopped_by_report: [u64; STEP_MARKS.len()],
-    refused: u64,
-    outputs: u64,
-    /// Programs that ran clean and would not have with document 01's rule of the op.
-    clean_by: [u64; FINER.len()],
-}
-
-impl Tally {
-    pub fn add(&mut self, other: &Tally) {
-        self.programs += other.programs;
-        self.looks += other.looks;
-        self.differing += other.differing;
-        self.refused += other.refused;
-        self.outputs += other.outputs;
-        for (to, from) in self.clean_by.iter_mut().zip(other.clean_by) {
-            *to += from;
-        }
-        for mark in 0..STEP_MARKS.len() {
-            self.clean[mark] += other.clean[mark];
-            self.stopped_by_report[mark] += other.stopped_by_report[mark];
-        }
-    }
-
-    fn close(&mut self, pair: &Pair) {
-        let reached = STEP_MARKS.partition_point(|&mark| mark <= pair.clean_steps) - 1;
-        self.programs += 1;
-        if pair.desk.state.reports > 0 {
-            self.stopped_by_report[reached] += 1;
-        } else {
-            self.clean[reached] += 1;
-            self.outputs += u64::from(pair.desk.state.outputs);
-            for (count, (_, fault)) in self.clean_by.iter_mut().zip(FINER) {
-                *count += u64::from(pair.reported_by(fault));
-            }
-        }
-    }
-
-    /// Is too little behind the claim: programs clean for dozens of steps, and by each finer rule,
-    /// undefined bits that differ, refused runs, outputs?
-    pub fn is_empty(&self) -> bool {
-        let dozens: u64 = self.clean[3..].iter().sum();
-        let few_programs = |&programs: &u64| 8 * programs < self.programs;
-        let few = few_programs(&dozens) || self.clean_by.iter().any(few_programs);
-        let few = few || 2 * self.differing < self.looks;
-        few || self.programs == 0 || self.refused == 0 || self.outputs == 0
-    }
-
-    pub fn table(&self) -> String {
-        let by_steps = |counts: &[u64]| {
-            let pairs = STEP_MARKS.iter().zip(counts);
-            let pairs: Vec<String> =
-                pairs.map(|(mark, count)| format!("{mark}+ steps: {count}")).collect();
-            pairs.join(", ")
-        };
-        let clean_by = FINER.iter().zip(&self.clean_by);
-        let clean_by: Vec<String> =
-            clean_by.map(|((op, _), count)| format!("of {op}: {count}")).collect();
-        format!(
-            "programs that ran clean, by steps: {}\n\
-             programs stopped by a report, by clean steps before it: {}\n\
-             looks at both machines: {}, of them {} with undefined bits that differ\n\
-             refused runs among them: {}; outputs of clean programs: {}\n\
-             clean programs that document 01's rule would report, {}\n",
-            by_steps(&self.clean),
-            by_steps(&self.stopped_by_report),
-            self.looks,
-            self.differing,
-            self.refused,
-            self.outputs,
-            clean_by.join(", ")
-        )
-    }
-}
 
 /// What went wrong in a claim case.
 enum Wrong {
@@ -172,6 +87,11 @@ fn panicked(message: String) -> Broken {
     Clause::Panic.broken(message)
 }
 
+/// Where a run has come to and what it put out.
+fn path(desk: &Desk) -> (u32, u32, &[u32]) {
+    (desk.state.index, desk.state.steps, &desk.lists.outputs)
+}
+
 /// Bits that differ, those with V 0 and those with V 1.
 fn split(left: u32, right: u32, shadow: u32) -> (u32, u32) {
     let differing = left ^ right;
@@ -201,14 +121,15 @@ impl Pair<'_> {
         Ok(Pair { checker, start, desk, bare, trapped: false, clean_steps: 0 })
     }
 
-    /// Is the program, as far as it ran clean, reported by the interpreter with this fault?
-    fn reported_by(&self, fault: &str) -> bool {
+    /// Is the program, as far as it ran clean, reported by the interpreter with this fault, or are its
+    /// outputs or its index others?
+    fn is_changed_by(&self, fault: &str) -> bool {
         let (mut desk, registers) = self.start.clone();
         let faulty = faults::planted(fault).expect("it is one of the planted faults");
         for call in [Call::Begin(registers), Call::Run(Budget::Exactly(self.clean_steps))] {
             calls::make(faulty, &mut desk, call);
         }
-        desk.state.reports > 0
+        desk.state.reports > 0 || path(&desk) != path(&self.desk)
     }
 
     /// A run on the checker and, unless refused, on the bare machine; the two stop reasons.

@@ -2,12 +2,14 @@
 
 mod carries;
 mod comparisons;
+mod dares;
 mod packed;
+mod readings;
 
 use crate::edges;
 use crate::images::{op, Image, Operand, Region, Row, FILLED, MOST_ROWS, UNDEFINED};
 use crate::prng::Prng;
-use crate::programs::{legal_row, ARITHMETIC};
+use crate::programs::{legal_row, ARITHMETIC, LOADS, STORES};
 
 use Operand::{Literal, Register};
 
@@ -61,14 +63,12 @@ impl Draft<'_> {
 
     /// An access somewhere in a zone, its address made from a firm register or a literal.
     fn access(&mut self, op: u8, d: u8, zone: u32) {
-        let wide = op == op::LD32 || op == op::ST32;
+        let last = ZONE - op::width(op);
         if self.prng.one_in(2) {
             let from = self.firm();
-            let mask = if wide { ZONE - 4 } else { ZONE - 1 };
-            self.add(op::AND, POINTER, from, Literal(mask));
+            self.add(op::AND, POINTER, from, Literal(last));
             self.rows.push(Row::access(op, d, POINTER, zone));
         } else {
-            let last = if wide { ZONE - 4 } else { ZONE - 1 };
             let to = zone + self.prng.between(0, last);
             let part = edges::word(self.prng);
             self.rows.push(Row::copy(POINTER, Literal(part)));
@@ -77,11 +77,11 @@ impl Draft<'_> {
     }
 
     fn load_op(&mut self) -> u8 {
-        self.prng.pick(&[op::LD8, op::LD32])
+        self.prng.pick(LOADS)
     }
 
     fn store_op(&mut self) -> u8 {
-        self.prng.pick(&[op::ST8, op::ST32])
+        self.prng.pick(STORES)
     }
 
     /// Arithmetic into a loose register from anything.
@@ -127,7 +127,8 @@ impl Draft<'_> {
         let zone = self.zones.loose;
         match self.prng.below(4) {
             0 | 1 => {
-                let (op, d) = (self.load_op(), self.loose());
+                let op = self.load_op();
+                let d = if self.prng.one_in(4) { POINTER } else { self.loose() };
                 self.access(op, d, zone);
             }
             2 => {
@@ -178,9 +179,10 @@ impl Draft<'_> {
                 self.add(op::AND, d, SCRATCH[0], Literal(!(u32::MAX >> amount)));
             }
             _ => {
-                self.access(op::LD8, SCRATCH[0], self.zones.loose);
+                let load = self.prng.pick(&[op::LD8, op::LD16]);
+                self.access(load, SCRATCH[0], self.zones.loose);
                 let op = self.prng.pick(&[op::SHR, op::SAR]);
-                self.add(op, d, SCRATCH[0], Literal(8));
+                self.add(op, d, SCRATCH[0], Literal(8 * op::width(load)));
                 self.add(op::AND, d, d, Literal(low));
             }
         }
@@ -206,29 +208,6 @@ impl Draft<'_> {
         let (d, byte) = (self.firm_target(), self.firm());
         let field = self.byte_among_undefined(byte);
         self.add(op::AND, d, SCRATCH[0], Literal(field.mask()));
-    }
-
-    /// What must be reported: an undefined condition, output or address, or an unaddressable byte.
-    fn dare(&mut self) {
-        let (loose, firm) = (self.loose(), self.firm());
-        let (from, to) = (self.zones.firm, self.zones.loose);
-        self.add(op::AND, SCRATCH[0], loose, Literal(ZONE - 4));
-        match self.prng.below(6) {
-            0 => self.rows.push(Row::jump(loose, 0)),
-            1 => self.rows.push(Row::emit(loose, 0)),
-            2 => self.rows.push(Row::access(op::LD32, loose, SCRATCH[0], from)),
-            3 => self.rows.push(Row::access(op::ST32, firm, SCRATCH[0], to)),
-            4 => {
-                let op = self.prng.pick(&[op::LD8, op::ST32]);
-                self.rows.push(Row::range(op::CLOSE, self.zones.shut, ZONE));
-                self.access(op, loose, self.zones.shut);
-            }
-            _ => {
-                let kept = edges::shadow(self.prng);
-                self.add(op::AND, SCRATCH[0], loose, Literal(kept));
-                self.rows.push(Row::jump(SCRATCH[0], 0));
-            }
-        }
     }
 
     /// The third zone opened, used and perhaps closed again.
@@ -264,7 +243,7 @@ impl Draft<'_> {
     }
 
     fn block(&mut self, counters: &[u8]) {
-        match self.prng.below(25) {
+        match self.prng.below(29) {
             0..=2 => self.loose_sum(),
             3 => self.firm_sum(),
             4 | 5 => self.loose_memory(),
@@ -279,8 +258,9 @@ impl Draft<'_> {
             14 | 15 => self.counted(counters),
             16 => self.skipped(counters),
             17 | 18 => self.compared(),
-            19 => self.polled(counters),
-            20 | 21 => self.packed_sums(counters),
+            19 | 20 => self.polled(counters),
+            21 | 22 => self.packed_sums(counters),
+            23..=25 => self.readings(counters),
             _ => {
                 self.partly_defined();
                 self.loose_sum();
@@ -353,12 +333,13 @@ impl Draft<'_> {
     }
 }
 
-/// The blocks of a whole program. One time in three a dare stands among the last of them, and one
-/// time in sixteen rows of any kind stand between them.
+/// The blocks of a whole program. One time in three a dare stands among them, and one time in
+/// sixteen rows of any kind stand between them.
 fn body(draft: &mut Draft, m: u32) {
     let any_rows = draft.prng.one_in(16);
-    let count = draft.prng.between(2, 24);
-    let dare = if draft.prng.one_in(3) { draft.prng.between(count / 2, count) } else { u32::MAX };
+    let dares = draft.prng.one_in(3);
+    let count = draft.prng.between(2, if dares { 12 } else { 24 });
+    let dare = if dares { draft.prng.between(1, count) } else { u32::MAX };
     for k in 0..=count {
         if draft.rows.len() as u32 > MOST_ROWS / 2 {
             break;

@@ -10,7 +10,7 @@ use crate::images::{op, HEADER_BYTES, ROW_BYTES};
 use crate::plan::Plan;
 use crate::systematic::FAMILIES;
 use crate::types::State;
-use sorts::Sorts;
+use sorts::{Sorts, Step};
 
 pub use sorts::{is_settled, MET_IN};
 
@@ -33,8 +33,8 @@ pub struct Coverage {
     calls: [[u64; NUMBERS]; CALLS.len()],
     reasons: [u64; REASONS],
     reports: [u64; REPORT_KINDS],
-    /// Ops of steps that a run took alone, and STOP where a run ended at it.
-    ops: [u64; op::COUNT],
+    /// Ops of steps that a run took alone, and STOP where a run ended at it, counted and drawn.
+    ops: [[u64; op::COUNT]; MET_IN.len()],
     /// Of those, some ops by their sort.
     sorts: Sorts,
 }
@@ -74,9 +74,11 @@ impl Coverage {
         for (to, from) in self.calls.iter_mut().zip(&other.calls) {
             add(to, from);
         }
+        for (to, from) in self.ops.iter_mut().zip(&other.ops) {
+            add(to, from);
+        }
         add(&mut self.reasons, &other.reasons);
         add(&mut self.reports, &other.reports);
-        add(&mut self.ops, &other.ops);
         self.sorts.add(&other.sorts);
     }
 
@@ -112,13 +114,15 @@ impl Coverage {
             };
             self.reports[(report[2] as usize).min(REPORT_KINDS - 1)] += 1;
         }
+        let drawn = kind >= FAMILIES.len();
+        let ops = &mut self.ops[usize::from(drawn)];
         if after.state.steps == before.steps + 1 {
             let row = &after.image[HEADER_BYTES + ROW_BYTES * before.index as usize..];
-            self.ops[usize::from(row[0])] += 1;
-            self.sorts.meet(kind >= FAMILIES.len(), row, before, &after.state);
+            ops[usize::from(row[0])] += 1;
+            self.sorts.meet(drawn, &Step { row, before, after });
         }
         if reason == 1 {
-            self.ops[usize::from(op::STOP)] += 1;
+            ops[usize::from(op::STOP)] += 1;
         }
     }
 
@@ -149,8 +153,10 @@ impl Coverage {
         for (kind, &count) in self.reports.iter().enumerate().skip(1) {
             look(format!("report kind {kind}"), count);
         }
-        for (name, &count) in op::NAMES.iter().zip(&self.ops) {
-            look(format!("op {name}"), count);
+        for (met_in, ops) in MET_IN.iter().zip(&self.ops) {
+            for (name, &count) in op::NAMES.iter().zip(ops) {
+                look(format!("op {name}, {met_in}"), count);
+            }
         }
         for (what, sorts, counts) in self.sorts.each() {
             for (sort, &count) in sorts.iter().zip(counts) {
@@ -177,14 +183,14 @@ impl Coverage {
         let numbered = |count: usize| (1..count).map(|k| k.to_string()).collect::<Vec<_>>();
         let reasons = pairs(&numbered(REASONS), &self.reasons[1..]);
         let reports = pairs(&numbered(REPORT_KINDS), &self.reports[1..]);
-        let ops = pairs(&op::NAMES, &self.ops);
+        let ops = MET_IN.iter().zip(&self.ops);
+        let ops = ops
+            .map(|(met_in, ops)| format!("single steps, {met_in}: {}\n", pairs(&op::NAMES, ops)));
+        let ops: String = ops.collect();
         let line = |(what, sorts, counts): (String, &[&str], &[u64])| {
             format!("single steps of {what}: {}\n", pairs(sorts, counts))
         };
         let sorts: String = self.sorts.each().map(line).collect();
-        format!(
-            "{heads}\n{table}stop reasons: {reasons}\nreport kinds: {reports}\nsingle steps: {ops}\n\
-             {sorts}"
-        )
+        format!("{heads}\n{table}stop reasons: {reasons}\nreport kinds: {reports}\n{ops}{sorts}")
     }
 }

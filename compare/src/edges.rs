@@ -71,7 +71,7 @@ pub fn shadow(prng: &mut Prng) -> u32 {
 }
 
 /// Addresses at both ends of M bytes and of 32 bits.
-pub fn addresses(m: u32) -> [u32; 16] {
+pub fn addresses(m: u32) -> [u32; 17] {
     let near = |k: u32| m.wrapping_sub(k);
     [
         0,
@@ -89,6 +89,7 @@ pub fn addresses(m: u32) -> [u32; 16] {
         0x8000_0000,
         0xFFFF_FFFC,
         0xFFFF_FFFD,
+        0xFFFF_FFFE,
         0xFFFF_FFFF,
     ]
 }

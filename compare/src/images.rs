@@ -34,11 +34,25 @@ pub mod op {
     pub const EMIT: u8 = 18;
     pub const OPEN: u8 = 19;
     pub const CLOSE: u8 = 20;
-    pub const COUNT: usize = 21;
+    pub const LD16: u8 = 21;
+    pub const LDS8: u8 = 22;
+    pub const LDS16: u8 = 23;
+    pub const ST16: u8 = 24;
+    pub const COUNT: usize = 25;
     pub const NAMES: [&str; COUNT] = [
         "STOP", "MOV", "ADD", "SUB", "MUL", "AND", "OR", "XOR", "SHL", "SHR", "SAR", "EQ", "LTU",
-        "LD8", "LD32", "ST8", "ST32", "JNZ", "EMIT", "OPEN", "CLOSE",
+        "LD8", "LD32", "ST8", "ST32", "JNZ", "EMIT", "OPEN", "CLOSE", "LD16", "LDS8", "LDS16",
+        "ST16",
     ];
+
+    /// The bytes of a load or store.
+    pub const fn width(op: u8) -> u32 {
+        match op {
+            LD8 | LDS8 | ST8 => 1,
+            LD16 | LDS16 | ST16 => 2,
+            _ => 4,
+        }
+    }
 }
 
 /// A second operand.

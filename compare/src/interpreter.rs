@@ -1,5 +1,6 @@
-//! Document 01 taken at its word, with the rules of EQ, ADD and SUB from requests L4 and L13 of document
-//! 02: reading, beginning and running, plain and in its order.
+//! Document 01 taken at its word, with the half words and signed loads of document 02's request L1 and the
+//! rules of EQ, ADD and SUB from its requests L4 and L13: reading, beginning and running, plain and in its
+//! order.
 
 use crate::types::{Began, Buffers, Engine, Header, Lists, Ran, State};
 
@@ -29,6 +30,10 @@ const JNZ: u8 = 17;
 const EMIT: u8 = 18;
 const OPEN: u8 = 19;
 const CLOSE: u8 = 20;
+const LD16: u8 = 21;
+const LDS8: u8 = 22;
+const LDS16: u8 = 23;
+const ST16: u8 = 24;
 
 const LITERAL: u8 = 255;
 
@@ -118,7 +123,7 @@ fn instruction_allowed(bytes: &[u8], header: &Header) -> bool {
         STOP => d == 0 && a == 0 && b == 0 && imm == 0,
         MOV => d <= 15 && a == 0 && operand_allowed(b, imm),
         ADD..=LTU => d <= 15 && a <= 15 && operand_allowed(b, imm),
-        LD8 | LD32 | ST8 | ST32 => d <= 15 && a <= 15 && b == 0,
+        LD8..=ST32 | LD16..=ST16 => d <= 15 && a <= 15 && b == 0,
         JNZ => d == 0 && a <= 15 && b == 0 && imm < header.n,
         EMIT => d == 0 && a <= 15 && b == 0 && imm <= 7,
         OPEN | CLOSE => d == 0 && a == 0 && b == 0 && span_allowed(imm, header.m),
@@ -314,9 +319,13 @@ impl Machine<'_> {
             SAR => self.set(d, arithmetic(x, amount), shifted(w, arithmetic(v, amount))),
             EQ => self.set(d, u32::from(x == y), equality(x, v, y, w)),
             LTU => self.set(d, u32::from(x < y), u32::from((v | w) != 0)),
-            LD8 => self.load(d, a, imm, 1),
-            LD32 => self.load(d, a, imm, 4),
+            LD8 => self.load(d, a, imm, 1, Widening::Zero),
+            LD16 => self.load(d, a, imm, 2, Widening::Zero),
+            LD32 => self.load(d, a, imm, 4, Widening::Zero),
+            LDS8 => self.load(d, a, imm, 1, Widening::Sign),
+            LDS16 => self.load(d, a, imm, 2, Widening::Sign),
             ST8 => self.store(d, a, imm, 1),
+            ST16 => self.store(d, a, imm, 2),
             ST32 => self.store(d, a, imm, 4),
             JNZ => {
                 self.look_at(a, 2);
@@ -359,7 +368,7 @@ impl Machine<'_> {
         Some(at as usize)
     }
 
-    fn load(&mut self, d: usize, a: usize, imm: u32, size: u32) {
+    fn load(&mut self, d: usize, a: usize, imm: u32, size: u32, widening: Widening) {
         self.look_at(a, 1);
         let address = self.state.regs[a].wrapping_add(imm);
         let (mut data, mut shadow) = (0, 0);
@@ -375,7 +384,7 @@ impl Machine<'_> {
         if unaddressable {
             self.report(3, address);
         }
-        self.set(d, data, shadow);
+        self.set(d, widening.of(data, size), widening.of(shadow, size));
     }
 
     fn store(&mut self, d: usize, a: usize, imm: u32, size: u32) {
@@ -420,6 +429,28 @@ impl Machine<'_> {
             place.copy_from_slice(&[port, value]);
         }
         self.state.outputs += 1;
+    }
+}
+
+// ---- Widening ----
+
+/// What a load puts above its bytes, in data and V alike.
+#[derive(Clone, Copy)]
+enum Widening {
+    /// Noughts (ZWiden in 000).
+    Zero,
+    /// Copies of their top bit (02, L1; SWiden in 000).
+    Sign,
+}
+
+impl Widening {
+    /// The word that has so many bytes at its low end.
+    fn of(self, bytes: u32, size: u32) -> u32 {
+        let above = 32 - 8 * size;
+        match self {
+            Widening::Zero => bytes,
+            Widening::Sign => arithmetic(bytes << above, above),
+        }
     }
 }
 

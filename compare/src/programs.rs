@@ -26,7 +26,10 @@ pub const ARITHMETIC: [u8; 12] = [
     op::EQ,
     op::LTU,
 ];
-pub const ACCESSES: [u8; 4] = [op::LD8, op::LD32, op::ST8, op::ST32];
+pub const ACCESSES: [u8; 8] =
+    [op::LD8, op::LD16, op::LD32, op::LDS8, op::LDS16, op::ST8, op::ST16, op::ST32];
+pub const LOADS: &[u8] = ACCESSES.split_at(5).0;
+pub const STORES: &[u8] = ACCESSES.split_at(5).1;
 pub const RANGES: [u8; 2] = [op::OPEN, op::CLOSE];
 
 pub fn register(prng: &mut Prng) -> u8 {
@@ -63,7 +66,7 @@ fn legal_of(prng: &mut Prng, op: u8, m: u32, n: u32) -> Row {
         op::STOP => Row::stop(),
         op::MOV => Row::copy(d, operand(prng, d)),
         op::ADD..=op::LTU => Row::sum(op, d, a, operand(prng, a)),
-        op::LD8..=op::ST32 => Row::access(op, d, a, edges::address(prng, m)),
+        _ if ACCESSES.contains(&op) => Row::access(op, d, a, edges::address(prng, m)),
         op::JNZ => Row::jump(a, prng.below(n)),
         op::EMIT => Row::emit(a, prng.below(8)),
         _ => range(prng, op, m),
@@ -126,17 +129,33 @@ fn rows_of(prng: &mut Prng, ops: &[u8], m: u32, n: u32) -> Vec<Row> {
 pub fn straight(prng: &mut Prng) -> Image {
     let m = memory_size(prng);
     let n = prng.between(1, 40);
-    let ops = [&ARITHMETIC[..], &ARITHMETIC[..], &[op::LD8, op::LD32]].concat();
+    let ops = [&ARITHMETIC[..], &ARITHMETIC[..], LOADS].concat();
     let rows = rows_of(prng, &ops, m, n);
     with_regions(prng, m, rows)
 }
 
-/// The ops with sorts of their own in coverage, from top to bottom.
-pub fn sums(prng: &mut Prng) -> Image {
+/// Few rows of these ops, from top to bottom.
+fn few_of(prng: &mut Prng, ops: &[u8]) -> Image {
     let m = memory_size(prng);
     let n = prng.between(1, 16);
-    let rows = rows_of(prng, &[op::ADD, op::SUB, op::EQ], m, n);
+    let rows = rows_of(prng, ops, m, n);
     with_regions(prng, m, rows)
+}
+
+/// The sums with sorts of their own in coverage.
+pub fn sums(prng: &mut Prng) -> Image {
+    few_of(prng, &[op::ADD, op::SUB, op::EQ])
+}
+
+/// The loads and stores with sorts of their own in coverage, one in four with d the same as a.
+pub fn half_words(prng: &mut Prng) -> Image {
+    let mut image = few_of(prng, &[op::LD16, op::LDS8, op::LDS16, op::ST16]);
+    for row in &mut image.rows {
+        if prng.one_in(4) {
+            row.d = row.a;
+        }
+    }
+    image
 }
 
 /// Loads and stores whose addresses, half of them composed of two parts, lie at the edges.
@@ -198,7 +217,8 @@ fn add_loop(prng: &mut Prng, rows: &mut Vec<Row>, m: u32, counters: &[u8]) {
     let ops = [&ARITHMETIC[..], &ACCESSES[..], &RANGES[..], &[op::EMIT]].concat();
     let count = prng.between(1, 10);
     for mut row in rows_of(prng, &ops, m, count) {
-        if (op::MOV..=op::LD32).contains(&row.op) && COUNTERS.contains(&row.d) {
+        let writes_d = ARITHMETIC.contains(&row.op) || LOADS.contains(&row.op);
+        if writes_d && COUNTERS.contains(&row.d) {
             row.d -= 8;
         }
         rows.push(row);

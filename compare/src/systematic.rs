@@ -8,10 +8,11 @@ use crate::families::{Choices, Family};
 use crate::images::{op, Image, Operand, Region, Row, FILLED, UNDEFINED};
 use crate::prng::Prng;
 
-pub const FAMILIES: [Family<Case>; 18] = [
+pub const FAMILIES: [Family<Case>; 19] = [
     Family { name: "every rule, edge words", make: runs::arithmetic },
     Family { name: "every carry in three bits", make: runs::carry },
     Family { name: "every access, edge address", make: runs::access },
+    Family { name: "every width, edge bytes", make: runs::width },
     Family { name: "every jump", make: runs::jump },
     Family { name: "every output", make: runs::emit },
     Family { name: "every range, run", make: runs::range },

@@ -69,6 +69,19 @@ fn a_difference_is_told_in_words() {
 }
 
 #[test]
+fn ops_and_sorts_that_were_never_met_are_missed() {
+    let missing = Coverage::default().missing();
+    for what in [
+        "op ST16, drawn",
+        "LDS8, counted: unaddressable over a 1",
+        "LDS16, drawn: undefined top bit 1",
+        "ST16, drawn: high byte at M",
+    ] {
+        assert!(missing.contains(&what.to_string()), "{what}");
+    }
+}
+
+#[test]
 fn an_alarm_case_is_the_same_each_time() {
     let cases = Cases::new(7);
     for number in (0..cases.counted() + 2000).step_by(997) {

@@ -88,12 +88,12 @@ fn comparison(plan: &Plan, cases: Range<u64>, total: &mut Coverage) -> usize {
 /// Claim cases, of which one that fails ends its chunk; how many failed.
 fn claims(seed: u64, cases: u64) -> (Tally, usize) {
     let work = |mut numbers: Range<u64>| {
-        let mut tally = Tally::default();
+        let mut tally = Tally::with_needs();
         let mut failure = |k| claim::try_case(&checker::ENGINE, seed, k, &mut tally).err();
         let failed = numbers.find_map(&mut failure);
         (tally, failed.into_iter().collect())
     };
-    let mut total = Tally::default();
+    let mut total = Tally::with_needs();
     let failures = tried(0..cases, work, |tally| total.add(tally));
     (total, failures)
 }

@@ -2,7 +2,7 @@
 //! and the bit below the field stops carries and borrows, so that the field can be used (document 02, L13).
 
 use super::packed::Field;
-use super::{Draft, POINTER, SCRATCH, ZONE};
+use super::{Draft, SCRATCH};
 use crate::edges;
 use crate::images::{op, Operand, Row};
 
@@ -34,7 +34,7 @@ impl Draft<'_> {
 
     /// The packed word: bits set in a word, or a byte stored among others.
     fn packed_word(&mut self) -> Field {
-        let [packed, number] = SCRATCH;
+        let packed = SCRATCH[0];
         let firm = self.firm();
         if self.prng.one_in(3) {
             let byte = self.byte_among_undefined(firm);
@@ -43,8 +43,7 @@ impl Draft<'_> {
         let field = Field { shift: self.prng.between(2, 28), bits: 0xF };
         let set = edges::shadow(self.prng) & rest(&field);
         self.partly_set(packed, rest(&field), set);
-        self.add(op::AND, number, firm, Literal(field.mask()));
-        self.add(op::OR, packed, packed, Register(number));
+        self.put(packed, firm, field.mask());
         field
     }
 
@@ -81,21 +80,5 @@ impl Draft<'_> {
             self.add(op::AND, answer, answer, Literal(field.bits));
         }
         answer
-    }
-
-    /// The field as an output, as a condition, or as a part of an address.
-    fn spent(&mut self, answer: u8) {
-        match self.prng.below(3) {
-            0 => self.rows.push(Row::emit(answer, self.prng.below(8))),
-            1 => {
-                self.rows.push(Row::jump(answer, self.rows.len() as u32 + 2));
-                self.loose_sum();
-            }
-            _ => {
-                let (op, d) = (self.prng.pick(&[op::LD8, op::ST8]), self.loose());
-                self.add(op::AND, POINTER, answer, Literal(ZONE - 1));
-                self.rows.push(Row::access(op, d, POINTER, self.zones.loose));
-            }
-        }
     }
 }

@@ -3,7 +3,7 @@
 use super::{Draft, POINTER, SCRATCH, ZONE};
 use crate::images::{op, Operand, Row};
 
-use Operand::Literal;
+use Operand::{Literal, Register};
 
 /// The set part of a word: where it begins, and its bits before they are moved there.
 pub struct Field {
@@ -25,6 +25,12 @@ impl Draft<'_> {
         self.add(op::OR, d, d, Literal(set));
     }
 
+    /// Bits of a register put into d, where these are 0, by way of the second scratch register.
+    pub fn put(&mut self, d: u8, from: u8, bits: u32) {
+        self.add(op::AND, SCRATCH[1], from, Literal(bits));
+        self.add(op::OR, d, d, Register(SCRATCH[1]));
+    }
+
     /// A byte stored among undefined ones and loaded with them into the first scratch register.
     pub fn byte_among_undefined(&mut self, byte: u8) -> Field {
         let a = self.loose();
@@ -35,5 +41,25 @@ impl Draft<'_> {
         self.rows.push(Row::access(op::ST8, byte, POINTER, to + k));
         self.rows.push(Row::access(op::LD32, SCRATCH[0], POINTER, to));
         Field { shift: 8 * k, bits: 0xFF }
+    }
+
+    /// What was read out as an output, as a condition, or as a part of an address.
+    pub fn spent(&mut self, answer: u8) {
+        if !self.prng.one_in(3) {
+            return self.told(answer);
+        }
+        let (op, d) = (self.prng.pick(&[op::LD8, op::ST8]), self.loose());
+        self.add(op::AND, POINTER, answer, Literal(ZONE - 1));
+        self.rows.push(Row::access(op, d, POINTER, self.zones.loose));
+    }
+
+    /// What was read out as an output or as a condition.
+    pub fn told(&mut self, answer: u8) {
+        if self.prng.one_in(2) {
+            self.rows.push(Row::emit(answer, self.prng.below(8)));
+        } else {
+            self.rows.push(Row::jump(answer, self.rows.len() as u32 + 2));
+            self.loose_sum();
+        }
     }
 }

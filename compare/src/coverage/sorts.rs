@@ -1,8 +1,21 @@
 //! The sorts of an op that a request of document 02 tells apart. Each has to be met in a step that a run
 //! took alone, in counted and in drawn cases.
 
-use crate::images::{op, word_at};
+mod accesses;
+mod sums;
+
+use crate::cases::Desk;
+use crate::images::op;
 use crate::types::State;
+
+pub use sums::is_settled;
+
+/// A step that a run took alone: its row, the state before it and all that it left.
+pub struct Step<'a> {
+    pub row: &'a [u8],
+    pub before: &'a State,
+    pub after: &'a Desk,
+}
 
 /// An op and the names of its sorts.
 struct Sorted {
@@ -12,95 +25,17 @@ struct Sorted {
     sort: fn(&Step) -> usize,
 }
 
-const SORTED: [Sorted; 3] = [
-    Sorted { op: op::ADD, names: &CARRIES, sort: carry },
-    Sorted { op: op::SUB, names: &CARRIES, sort: carry },
-    Sorted { op: op::EQ, names: &EQUALITIES, sort: equality },
+const SORTED: [Sorted; 7] = [
+    Sorted { op: op::ADD, names: &sums::CARRIES, sort: sums::carry },
+    Sorted { op: op::SUB, names: &sums::CARRIES, sort: sums::carry },
+    Sorted { op: op::EQ, names: &sums::EQUALITIES, sort: sums::equality },
+    Sorted { op: op::LDS8, names: &accesses::BYTES_LOADED, sort: accesses::byte_loaded },
+    Sorted { op: op::LD16, names: &accesses::HALVES_LOADED, sort: accesses::half_loaded },
+    Sorted { op: op::LDS16, names: &accesses::HALVES_LOADED, sort: accesses::half_loaded },
+    Sorted { op: op::ST16, names: &accesses::HALVES_STORED, sort: accesses::half_stored },
 ];
 
-/// ADD and SUB (L13): how far carries or borrows make bits undefined, and whose bits were.
-const CARRIES: [&str; 12] = [
-    "without undefined bits",
-    "of one register",
-    "stopped at once with bits of a undefined",
-    "stopped at once with bits of B undefined",
-    "stopped at once with other bits of both undefined",
-    "stopped later with bits of a undefined",
-    "stopped later with bits of B undefined",
-    "stopped later with other bits of both undefined",
-    "stopped later with the same bit of both undefined",
-    "as far as Left with bits of a undefined",
-    "as far as Left with bits of B undefined",
-    "as far as Left with bits of both undefined",
-];
-
-/// EQ (L4): what settles it.
-const EQUALITIES: [&str; 7] = [
-    "without undefined bits",
-    "of one register",
-    "unsettled with equal data",
-    "unsettled with other data",
-    "settled with bits of a undefined",
-    "settled with bits of B undefined",
-    "settled with bits of both undefined",
-];
 pub const MET_IN: [&str; 2] = ["counted", "drawn"];
-
-/// The operands of a step, data and V, whether they are one register, and the V that it made.
-struct Step {
-    x: u32,
-    v: u32,
-    y: u32,
-    w: u32,
-    one_register: bool,
-    made: u32,
-}
-
-impl Step {
-    fn of(row: &[u8], before: &State, after: &State) -> Step {
-        let [d, a, b] = [1, 2, 3].map(|at| usize::from(row[at]));
-        let (x, v) = (before.regs[a], before.vregs[a]);
-        let register = before.regs.get(b).map(|&y| (y, before.vregs[b]));
-        let (y, w) = register.unwrap_or((word_at(row, 4), 0));
-        Step { x, v, y, w, one_register: a == b, made: after.vregs[d] }
-    }
-
-    /// 0 if bits of a alone are undefined, 1 if bits of B alone, 2 if bits of both.
-    fn whose(&self) -> usize {
-        match (self.v != 0, self.w != 0) {
-            (_, false) => 0,
-            (false, _) => 1,
-            _ => 2,
-        }
-    }
-}
-
-fn carry(step: &Step) -> usize {
-    let undefined = step.v | step.w;
-    let lowest_and_above = undefined | undefined.wrapping_neg();
-    match step.made {
-        _ if undefined == 0 => 0,
-        _ if step.one_register => 1,
-        made if made == lowest_and_above => 9 + step.whose(),
-        made if made == undefined => 2 + step.whose(),
-        _ => 5 + step.whose() + usize::from(step.v & step.w != 0),
-    }
-}
-
-/// Do two words differ in a bit that is defined in both?
-pub fn is_settled(x: u32, v: u32, y: u32, w: u32) -> bool {
-    (x ^ y) & !(v | w) != 0
-}
-
-fn equality(step: &Step) -> usize {
-    let Step { x, v, y, w, one_register, .. } = *step;
-    match v | w {
-        0 => 0,
-        _ if one_register => 1,
-        _ if !is_settled(x, v, y, w) => 2 + usize::from(x != y),
-        _ => 4 + step.whose(),
-    }
-}
 
 /// How often each sort was met, counted and drawn.
 pub struct Sorts([[Vec<u64>; MET_IN.len()]; SORTED.len()]);
@@ -118,12 +53,10 @@ impl Sorts {
         }
     }
 
-    /// The row was the step between these states.
-    pub fn meet(&mut self, drawn: bool, row: &[u8], before: &State, after: &State) {
+    pub fn meet(&mut self, drawn: bool, step: &Step) {
         for (sorted, counts) in SORTED.iter().zip(&mut self.0) {
-            if sorted.op == row[0] {
-                let sort = (sorted.sort)(&Step::of(row, before, after));
-                counts[usize::from(drawn)][sort] += 1;
+            if sorted.op == step.row[0] {
+                counts[usize::from(drawn)][(sorted.sort)(step)] += 1;
             }
         }
     }

@@ -5,7 +5,7 @@ use crate::cases::{self, Budget, Call, Case};
 use crate::edges;
 use crate::images::{op, Image, Operand, Row, MOST_MEMORY, MOST_ROWS};
 use crate::prng::Prng;
-use crate::programs::{ACCESSES, ARITHMETIC, RANGES};
+use crate::programs::{ACCESSES, ARITHMETIC, RANGES, STORES};
 use crate::types::State;
 
 /// One step from a state with these registers and V words; the others hold anything.
@@ -62,12 +62,44 @@ pub fn access(choices: &mut Choices, prng: &mut Prng) -> Case {
     let row = Row::access(op, d, 1, address.wrapping_sub(base));
     let image = Image { m, ..small_image(prng, vec![row]) };
     let mut case = one_step_of(prng, &image, &[(1, base, v)]);
-    for k in 0..4 {
-        let at = address as usize + k;
-        if let Some(mark) = case.desk.a.get_mut(at) {
-            *mark = u8::from(unaddressable & (1 << k) == 0);
+    set_bytes(&mut case.desk.a, address, marks(unaddressable));
+    case
+}
+
+/// Four bytes from an address on, as far as there are such.
+fn set_bytes(buffer: &mut [u8], address: u32, bytes: [u8; 4]) {
+    for (k, byte) in bytes.into_iter().enumerate() {
+        if let Some(place) = buffer.get_mut(address as usize + k) {
+            *place = byte;
         }
     }
+}
+
+/// The A of four bytes, 0 where a bit is set.
+fn marks(unaddressable: u32) -> [u8; 4] {
+    std::array::from_fn(|k| u8::from(unaddressable & (1 << k) == 0))
+}
+
+/// Words in which the top bits of a byte and of a half word are set and not set, each without the other,
+/// and the bits below without either.
+const TOPS: [u32; 5] = [0, 0x80, 0x8000_8000, 0x7F7F_7F7F, 0xFFFF_FFFF];
+
+/// Data and V that a load finds or a store has, with every pattern of unaddressable bytes.
+pub fn width(choices: &mut Choices, prng: &mut Prng) -> Case {
+    let op = choices.pick(&ACCESSES);
+    let address = choices.pick(&edges::addresses(M));
+    let unaddressable = choices.below(16) as u32;
+    let [data, shadow] = [0; 2].map(|_| choices.pick(&TOPS));
+    let mut case = one_step(prng, vec![Row::access(op, 2, 1, address)], &[(1, 0, 0)]);
+    let desk = &mut case.desk;
+    if STORES.contains(&op) {
+        (desk.state.regs[2], desk.state.vregs[2]) = (data, shadow);
+    } else {
+        set_bytes(&mut desk.mem, address, data.to_le_bytes());
+        set_bytes(&mut desk.v, address, shadow.to_le_bytes());
+    }
+    desk.a.fill(1);
+    set_bytes(&mut desk.a, address, marks(unaddressable));
     case
 }
 

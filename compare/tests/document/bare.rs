@@ -23,11 +23,55 @@ fn bare_machine_traps_before_the_step() {
 
 #[test]
 fn bare_machine_does_not_wrap_an_access() {
-    for (op, address) in [(14, ONES - 1), (16, ONES), (13, 4), (15, ONES), (14, 1)] {
+    let words = [(14, ONES - 1), (16, ONES), (13, 4), (15, ONES), (14, 1)];
+    let halves = [21, 23, 24].map(|op| [3, 4, ONES - 1, ONES].map(|address| (op, address)));
+    for (op, address) in [&words[..], &halves.concat(), &[(22, 4), (22, ONES)]].concat() {
         let image = image(4, &[(op, 1, 15, 0, address)], &[[0, 4, 2]], &[]);
         let mut bare = Bare::begin(&image, &[0; 16], &[0; 4]);
         assert_eq!(bare.run(&image, 0, 5), 6);
         assert_eq!(bare.steps, 0);
+    }
+}
+
+/// Half words and signed loads (document 02, L1), of which the bare machine has the data alone.
+#[test]
+fn bare_machine_widens_by_sign() {
+    let data = [0x7F, 0x80, 0x00, 0x80, 0xFF, 0x7F];
+    let loads = [
+        (22, 0, 0x7F),
+        (22, 1, 0xFFFF_FF80),
+        (21, 2, 0x8000),
+        (23, 2, 0xFFFF_8000),
+        (23, 4, 0x7FFF),
+        (21, 4, 0x7FFF),
+        (23, 1, 0x80), // bytes 0x80 and 0x00
+        (23, 3, 0xFFFF_FF80),
+        (21, 3, 0xFF80),
+    ];
+    for (op, address, word) in loads {
+        let image = image(6, &[(op, 1, 15, 0, address)], &[[0, 6, 1]], &data);
+        let mut bare = Bare::begin(&image, &[0; 16], &[0; 6]);
+        assert_eq!((bare.run(&image, 0, 1), bare.regs[1]), (2, word));
+        assert_eq!((bare.index, bare.steps, &bare.mem[..]), (1, 1, &data[..]));
+    }
+    let image = image(6, &[(24, 1, 15, 0, 1)], &[[1, 2, 2]], &[]);
+    let mut bare = Bare::begin(&image, &[0; 16], &[9; 6]);
+    bare.regs[1] = 0xAABB_CCDD;
+    assert_eq!(bare.run(&image, 0, 1), 2);
+    assert_eq!((bare.mem, bare.regs[1]), (vec![9, 0xDD, 0xCC, 9, 9, 9], 0xAABB_CCDD));
+}
+
+/// Bytes 0 and 3 of four are addressable: every half word traps, and so does a byte between.
+#[test]
+fn bare_machine_traps_at_half_an_access() {
+    let halves = [21, 23, 24].map(|op| [0, 1, 2].map(|address| (op, address)));
+    for (op, address) in [&halves.concat()[..], &[(22, 1), (22, 2)]].concat() {
+        let image = image(4, &[(op, 1, 15, 0, address)], &[[0, 1, 2], [3, 1, 1]], &[0x80]);
+        let mut bare = Bare::begin(&image, &[0; 16], &[0x77; 4]);
+        bare.regs[1] = 5;
+        assert_eq!(bare.run(&image, 0, 5), 6);
+        assert_eq!((bare.index, bare.steps, bare.regs[1]), (0, 0, 5));
+        assert_eq!(bare.mem, [0x77, 0x77, 0x77, 0x80]);
     }
 }
 
@@ -47,11 +91,11 @@ impl Dice {
     fn instruction(&mut self, n: u32) -> Ins {
         let (d, a, b) = (self.below(4) as u8, self.below(4) as u8, self.below(4) as u8);
         let a = if self.below(3) == 0 { 15 } else { a };
-        match 1 + self.below(20) as u8 {
+        match 1 + self.below(24) as u8 {
             1 => (1, d, 0, LIT, self.below(24)),
             op @ 2..=12 if self.below(2) == 0 => (op, d, a, b, 0),
             op @ 2..=12 => (op, d, a, LIT, self.below(40)),
-            op @ 13..=16 => (op, d, a, 0, self.below(18)),
+            op @ (13..=16 | 21..=24) => (op, d, a, 0, self.below(18)),
             17 => (17, 0, a, 0, self.below(n)),
             18 => (18, 0, a, 0, self.below(8)),
             op => (op, 0, 0, 0, self.below(12) | (1 + self.below(4)) << 16),

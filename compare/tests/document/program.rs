@@ -40,7 +40,22 @@ fn worked_example_writes_its_three_lines() {
 
 #[test]
 fn program_writes_only_the_refusal() {
-    let code = [STOP, STOP, STOP, (21, 0, 0, 0, 0), STOP];
+    let code = [STOP, STOP, STOP, (25, 0, 0, 0, 0), STOP];
     assert_eq!(program(&image(4, &code, &[], &[])), "refused 5 at 3\n");
+    let code = [(24, 0, 0, 0, 0), (21, 0, 0, 1, 0), (25, 0, 0, 0, 0)];
+    assert_eq!(program(&image(4, &code, &[], &[])), "refused 5 at 1\n");
     assert_eq!(program(&[]), "refused 1 at 0\n");
+}
+
+/// A reading of -2, and one that nobody took, which is undefined to its sign and above (document 02, L1).
+#[test]
+fn program_writes_a_signed_reading() {
+    let code = [(23, 1, 2, 0, 0), (18, 0, 1, 0, 1), (22, 1, 15, 0, ONES), (18, 0, 1, 0, 2), STOP];
+    let image = image(4, &code, &[[0, 2, 1], [3, 1, 2]], &[0xFE, 0xFF]);
+    let expected = "step 0 at 0 kind 1 detail 4294967295\n\
+                    step 3 at 3 kind 5 detail 4294967295\n\
+                    out port 1 value 4294967294\n\
+                    out port 2 value 0\n\
+                    end 1 steps 4 reports 2 outputs 2\n";
+    assert_eq!(program(&image), expected);
 }

@@ -86,7 +86,7 @@ fn refusal_5_rows() {
     for field in [(0, 1, 0, 0, 0), (0, 0, 1, 0, 0), (0, 0, 0, 1, 0), (0, 0, 0, 0, 1)] {
         assert!(!allowed(field));
     }
-    for op in 21..=255 {
+    for op in 25..=255 {
         assert!(!allowed((op, 0, 0, 0, 0)));
     }
     for op in 1..=12 {
@@ -100,12 +100,16 @@ fn refusal_5_rows() {
         assert_eq!(allowed((op, 0, 15, 0, 0)), op != 1);
         assert!(!allowed((op, 0, 16, 0, 0)));
     }
-    for op in 13..=16 {
+    for op in (13..=16).chain(21..=24) {
+        assert!(allowed((op, 0, 0, 0, 0)));
         assert!(allowed((op, 15, 15, 0, ONES)));
-        assert!(!allowed((op, 16, 0, 0, 0)));
-        assert!(!allowed((op, 0, 16, 0, 0)));
-        assert!(!allowed((op, 0, 0, 1, 0)));
-        assert!(!allowed((op, 0, 0, LIT, 0)));
+        for wrong in [16, 128, 255] {
+            assert!(!allowed((op, wrong, 0, 0, 0)));
+            assert!(!allowed((op, 0, wrong, 0, 0)));
+        }
+        for wrong in [1, 15, 16, LIT] {
+            assert!(!allowed((op, 0, 0, wrong, 0)));
+        }
     }
     for (op, most) in [(17, 2), (18, 7)] {
         assert!(allowed((op, 0, 15, 0, most)));
@@ -130,7 +134,7 @@ fn refusal_5_rows() {
 
 #[test]
 fn refusal_5_names_the_lowest_and_comes_before_6() {
-    let bad = (21, 0, 0, 0, 0);
+    let bad = (25, 0, 0, 0, 0);
     assert_eq!(answer(&image(8, &[STOP, STOP, bad, bad], &[], &[])), (5, 2));
     assert_eq!(answer(&image(8, &[STOP, bad], &[[0, 0, 1]], &[])), (5, 1));
 }
@@ -193,7 +197,7 @@ fn refused_beginning_leaves_buffers_and_answers_zeros() {
 #[test]
 fn refusal_of_a_run_by_its_image() {
     let mut kit = Kit::new(image(4, &[STOP], &[], &[]), [3; 16]);
-    kit.image = image(4, &[STOP, STOP, (21, 0, 0, 0, 0)], &[], &[]);
+    kit.image = image(4, &[STOP, STOP, (25, 0, 0, 0, 0)], &[], &[]);
     kit.state.index = 99;
     let before = kit.clone();
     let ran = kit.try_run(ONES);

@@ -3,6 +3,7 @@
 use std::fmt;
 
 use compare::images::{op, Operand, Row};
+use compare::programs::STORES;
 
 use crate::machine::{Machine, ADDRESS, FIRST, RESULT, SECOND};
 
@@ -57,8 +58,8 @@ impl Case {
         Some(Case { op, form, x, v, y, w, data, shadow })
     }
 
-    fn is_store(&self) -> bool {
-        [op::ST8, op::ST32].contains(&self.op)
+    pub fn is_store(&self) -> bool {
+        STORES.contains(&self.op)
     }
 
     fn instruction(&self) -> Row {

@@ -1,6 +1,6 @@
 //! The comparison: counts of the lines that were taken, and all that wasn't foreseen in them.
 
-use std::collections::BTreeMap;
+use std::collections::{BTreeMap, BTreeSet};
 use std::ops::RangeInclusive;
 
 use compare::images::op;
@@ -10,18 +10,21 @@ use crate::differences::Relation::{self, Equal};
 use crate::differences::ROWS;
 use crate::events::{event_place, EVENTS};
 use crate::modes::{Mode, ALL, EVERY};
+use crate::moved::{ways_of, Way};
 use crate::seen::Seen;
 
 /// The operations that `vbits` runs, and the fewest cases of each that make a measurement.
-const MEASURED: RangeInclusive<u8> = op::MOV..=op::ST32;
+const MEASURED: [RangeInclusive<u8>; 2] = [op::MOV..=op::ST32, op::LD16..=op::ST16];
 const FEWEST_CASES: u32 = 4000;
 const MOST_FAULTS_PER_FILE: usize = 10;
 
-/// The counts of one operation in one mode, by relation, and the cases with other data.
+/// The counts of one operation in one mode, by relation, the cases with other data, and the ways that
+/// were met.
 #[derive(Default)]
 pub struct Tally {
     pub by: BTreeMap<Relation, u32>,
     pub data_differs: u32,
+    met: BTreeSet<Way>,
 }
 
 impl Tally {
@@ -92,6 +95,7 @@ impl Comparison {
         let found = Relation::of(v, case.shadow);
         let tally = self.tallies.entry((case.op, mode)).or_default();
         *tally.by.entry(found).or_default() += 1;
+        tally.met.extend(case.ways());
         if data != case.data {
             tally.data_differs += 1;
             return Err(format!("{case}: data {:#x}, ours {data:#x}", case.data));
@@ -122,7 +126,7 @@ impl Comparison {
         Ok(())
     }
 
-    /// What the lines lacked: events, silent operations, cases.
+    /// What the lines lacked: events, silent operations, cases, ways of the loads and stores.
     pub fn find_gaps(&mut self) {
         for event in EVENTS {
             for &mode in EVERY {
@@ -137,10 +141,15 @@ impl Comparison {
             if !self.silent.contains(&mode) {
                 self.add_fault(mode, "the operations weren't silent");
             }
-            for op in MEASURED {
-                if self.tallies.get(&(op, mode)).map_or(0, Tally::cases) < FEWEST_CASES {
-                    let name = op::NAMES[op as usize];
+            for op in MEASURED.into_iter().flatten() {
+                let (name, ways) = (op::NAMES[op as usize], ways_of(op));
+                let tally = self.tallies.entry((op, mode)).or_default();
+                let (cases, met) = (tally.cases(), tally.met.len());
+                if cases < FEWEST_CASES {
                     self.add_fault(mode, &format!("too few cases of {name}"));
+                }
+                if met != ways {
+                    self.add_fault(mode, &format!("{name} met {met} of {ways} ways"));
                 }
             }
         }

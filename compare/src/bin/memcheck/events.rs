@@ -48,9 +48,14 @@ const IN_VALUE: Look = Register(SECOND);
 const IN_RESULT: Look = Register(RESULT);
 const LOAD: Row = Row::access(op::LD32, RESULT, FIRST, 0);
 const LOAD_BYTE: Row = Row::access(op::LD8, RESULT, FIRST, 0);
+const LOAD_SIGNED_BYTE: Row = Row::access(op::LDS8, RESULT, FIRST, 0);
+const LOAD_HALF: Row = Row::access(op::LD16, RESULT, FIRST, 0);
+const LOAD_SIGNED_HALF: Row = Row::access(op::LDS16, RESULT, FIRST, 0);
+const LOAD_SIGNED_BEFORE: Row = Row::access(op::LDS16, RESULT, FIRST, 1u32.wrapping_neg());
 const LOAD_PAST: Row = Row::access(op::LD32, RESULT, FIRST, 4);
 const STORE: Row = Row::access(op::ST32, SECOND, FIRST, 0);
 const STORE_BYTE: Row = Row::access(op::ST8, SECOND, FIRST, 0);
+const STORE_HALF: Row = Row::access(op::ST16, SECOND, FIRST, 0);
 const EMIT: Row = Row::emit(SECOND, 0);
 const ZERO: Row = Row::sum(op::EQ, RESULT, SECOND, Operand::Literal(0));
 const ADDED: Row = Row::sum(op::ADD, RESULT, SECOND, Operand::Literal(16));
@@ -62,6 +67,12 @@ const COMPARE_JUMP: &[Row] = &[ZERO, Row::jump(RESULT, 2), Row::stop()];
 const ADD_JUMP: &[Row] = &[ADDED, UPPER, Row::jump(RESULT, 3), Row::stop()];
 const SUB_JUMP: &[Row] = &[LESS, UPPER, Row::jump(RESULT, 3), Row::stop()];
 const LOAD_JUMP: &[Row] = &[LOAD, Row::jump(RESULT, 2), Row::stop()];
+const SIGNED_HALF_JUMP: &[Row] =
+    &[STORE_HALF, LOAD_SIGNED_HALF, UPPER, Row::jump(RESULT, 4), Row::stop()];
+const SIGNED_FROM_JUMP: &[Row] =
+    &[STORE_BYTE, LOAD_SIGNED_HALF, UPPER, Row::jump(RESULT, 4), Row::stop()];
+const SIGNED_FROM: &[Row] = &[STORE_BYTE, LOAD_SIGNED_HALF];
+const SIGNED_UP_TO: &[Row] = &[STORE_BYTE, LOAD_SIGNED_BEFORE];
 const CLOSE_WORD: Row = Row::range(op::CLOSE, 0, 4);
 const OPEN_WORD: Row = Row::range(op::OPEN, 0, 4);
 const COPY: Row = Row::copy(RESULT, Operand::Register(SECOND));
@@ -93,7 +104,7 @@ const LEFT: &str = "document 01's rule of ADD and SUB, by which no defined bit s
 const OUTPUT: &str = "Memcheck reports the bytes that a system call reads and leaves their V";
 const REAL_DATA: &str = "Memcheck lets the real access happen: data of unaddressable bytes";
 const PARTIAL: &str =
-    "an aligned load with an addressable byte isn't reported; the others load undefined";
+    "an aligned load of 4 bytes isn't reported if one is addressable; the others load undefined";
 
 #[rustfmt::skip]
 pub const EVENTS: &[Event] = &[
@@ -115,17 +126,28 @@ pub const EVENTS: &[Event] = &[
     other("add-jump-stopped", ADD_JUMP, IN_RESULT, &[No, Plain, Strict], [1, 0xFFFF, VALUE >> 16], LEFT),
     same("sub-jump-stopped", SUB_JUMP, IN_RESULT),
     other("sub-jump-stopped", SUB_JUMP, IN_RESULT, &[No, Auto, Plain, Strict], [1, 0xFFFF, VALUE >> 16], LEFT),
+    same("signed-jump-low-undefined", SIGNED_HALF_JUMP, IN_RESULT),
+    other("signed-jump-sign-undefined", SIGNED_HALF_JUMP, IN_RESULT, EVERY, [1, 0xFFFF, 0xFFFF], NOT_CLEARED),
     other("output", &[EMIT], IN_VALUE, EVERY, [1, 0x10, VALUE], OUTPUT),
     other("output-twice", &[EMIT, EMIT], IN_VALUE, EVERY, [2, 0x10, VALUE], OUTPUT),
     other("unaddressable-load-byte", &[LOAD_BYTE], IN_RESULT, EVERY, [1, 0, 0x11], REAL_DATA),
+    other("unaddressable-load-signed-byte", &[LOAD_SIGNED_BYTE], IN_RESULT, EVERY, [1, 0, 0xFFFF_FF88], REAL_DATA),
+    other("unaddressable-load-half", &[LOAD_HALF], IN_RESULT, EVERY, [1, 0, 0x2211], REAL_DATA),
     other("unaddressable-load", &[LOAD], IN_RESULT, EVERY, [1, 0, MEMORY], REAL_DATA),
     other("unaddressable-load-jump", LOAD_JUMP, IN_RESULT, EVERY, [1, 0, MEMORY], REAL_DATA),
     other("partly-unaddressable-load", &[LOAD], IN_RESULT, ALL, [0, 0xFFFF_0000, MEMORY], PARTIAL),
     other("partly-unaddressable-load", &[LOAD], IN_RESULT, &[Strict], [1, 0, MEMORY], REAL_DATA),
     other("partly-unaddressable-unaligned", &[LOAD], IN_RESULT, EVERY, [1, 0, 0x6655_4433], REAL_DATA),
+    other("partly-unaddressable-half", &[LOAD_HALF], IN_RESULT, EVERY, [1, 0, 0x2211], REAL_DATA),
+    other("partly-unaddressable-half-unaligned", &[LOAD_HALF], IN_RESULT, EVERY, [1, 0, 0x5544], REAL_DATA),
+    other("signed-top-unaddressable", SIGNED_FROM, IN_RESULT, EVERY, [1, 0x81, 0x22EF], REAL_DATA),
+    same("signed-top-unaddressable-jump", SIGNED_FROM_JUMP, IN_RESULT),
+    other("signed-low-unaddressable", SIGNED_UP_TO, IN_RESULT, EVERY, [1, 0xFFFF_8100, 0xFFFF_EF11], REAL_DATA),
     other("unaddressable-store-byte", &[STORE_BYTE], Memory, EVERY, [1, 0, 0x4433_22EF], REAL_DATA),
+    other("unaddressable-store-half", &[STORE_HALF], Memory, EVERY, [1, 0, 0x4433_CDEF], REAL_DATA),
     other("unaddressable-store", &[STORE], Memory, EVERY, [1, 0, VALUE], REAL_DATA),
     other("partly-unaddressable-store", &[STORE], Memory, EVERY, [1, 0xF01, VALUE], REAL_DATA),
+    other("partly-unaddressable-store-half", &[STORE_HALF], Memory, EVERY, [1, 0x01, 0x4433_CDEF], REAL_DATA),
     same("reopened-load", &[CLOSE_WORD, OPEN_WORD, LOAD], IN_RESULT),
 ];
 

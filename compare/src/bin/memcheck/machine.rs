@@ -12,7 +12,7 @@ pub const SECOND: u8 = 2;
 pub const RESULT: u8 = 3;
 pub const ADDRESS: u8 = 4;
 /// Bytes of memory: the window of a load or store.
-const M: usize = 8;
+pub const M: usize = 8;
 
 /// A machine before or after a run.
 pub struct Machine {

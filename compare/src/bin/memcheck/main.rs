@@ -7,6 +7,7 @@ mod differences;
 mod events;
 mod machine;
 mod modes;
+mod moved;
 mod rules;
 mod seen;
 mod tables;
