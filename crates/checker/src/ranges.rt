@@ -72,7 +72,7 @@ fn all_marked(width: Width) -> u32
 }
 
 // Whether every byte of an access is addressable.
-fn marked(width: Width, a: &[u8], at: usize) -> bool
+fn all_addressable_of(width: Width, a: &[u8], at: usize) -> bool
     requires { ⌜ at < 2 ^ 32 ⌝ }
     ensures { λ r. ⌜ r ≡ allAddressable (now (a .entry)) at (bytesOf width) ⌝ }
 {
@@ -88,9 +88,9 @@ pub fn all_addressable(width: Width, a: &[u8], at: usize) -> bool
     ensures { λ r. ⌜ r ≡ allAddressable (now (a .entry)) at (bytesOf width) ⌝ }
 {
     match width {
-        Width::Byte => marked(Width::Byte, a, at),
-        Width::Half => marked(Width::Half, a, at),
-        Width::Word => marked(Width::Word, a, at),
+        Width::Byte => all_addressable_of(Width::Byte, a, at),
+        Width::Half => all_addressable_of(Width::Half, a, at),
+        Width::Word => all_addressable_of(Width::Word, a, at),
     }
 }
 

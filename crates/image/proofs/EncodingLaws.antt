@@ -13,7 +13,7 @@ use Rattle.rules.specs.declared.Operation.the-variants.{Add, Sub, Mul, And, Or,
 use Rattle.image.specs.Words.{Bytes}
 use Rattle.image.specs.Format.{instructionSize, registers, ports}
 use Rattle.image.specs.Rows.{rows, rowOf, literalMark, isRegister, operandOk, rangeStart, rangeLength, rangeOk, fieldsOk, operandOf, built, decoded, Fields, fieldsAt, decodedFrom, decodeAt}
-use Rattle.image.specs.Encoding.{fields, opOf, loadOp, storeOp, markOp, operandB, operandImm, encoded, StartFits, StandsAt, ReadsAs}
+use Rattle.image.specs.Encoding.{fields, opOf, ops, loadOp, storeOp, markOp, operandB, operandImm, encoded, StartFits, StandsAt, ReadsAs}
 use Rattle.image.specs.Accepted.{OperandFits, Fits}
 use Rattle.image.specs.declared.Operand.{Operand}
 use Rattle.image.specs.declared.Operand.the-variants.{Register, Literal}
@@ -113,7 +113,7 @@ row-of-op Sar = refl
 row-of-op Eq = refl
 row-of-op Ltu = refl
 
-row-of-load : (width : Width) (widening : Widening) → loadOp width widening < length rows → rowOf (loadOp width widening) ≡ Loads width widening
+row-of-load : (width : Width) (widening : Widening) → loadOp width widening < ops → rowOf (loadOp width widening) ≡ Loads width widening
 unfolding rowOf loadOp
 row-of-load Byte Zero h = refl
 row-of-load Half Zero h = refl
@@ -140,7 +140,7 @@ operand-there (Literal x) h = (refl, refl)
 range-there : (start size : ℕ) → start < 2 ^ 16 → (rangeStart (start + 2 ^ 16 * size) ≡ start) × (rangeLength (start + 2 ^ 16 * size) ≡ size)
 range-there start size l = (omega arith, omega arith)
 
-there : (v : Instruction) (i n m : ℕ) → encoded v .op < length rows → StartFits v → Fits n m v → decodedFrom (encoded v) i n m ≡ Valid v
+there : (v : Instruction) (i n m : ℕ) → encoded v .op < ops → StartFits v → Fits n m v → decodedFrom (encoded v) i n m ≡ Valid v
 unfolding decoded rowOf fieldsOk built encoded
 there Stop i n m g l h = refl
 there (Move d b) i n m g l h =
@@ -159,7 +159,7 @@ there (Mark addressable start size) i n m g l h =
 
 pub encoding-decodes : (code : List ℕ) (i n m : ℕ) (v : Instruction) → StandsAt code i n m v → decodeAt code i n m ≡ Valid v
 unfolding decodeAt
-encoding-decodes code i n m v s = rw (lt-ltb i (length code / instructionSize) (s .there)) (ap (λ (f : Fields). decodedFrom f i n m) (s .same) ∙ there v i n m (s .row) (s .start) (s .fits))
+encoding-decodes code i n m v s = rw (lt-ltb i (length code / instructionSize) (s .there)) (ap (λ (f : Fields). decodedFrom f i n m) (s .same) ∙ there v i n m (s .known) (s .start) (s .fits))
 
 -- ---- the promise of `decode` by the fields follows from its equation, and the equation from it
 start-fits : (row : Row) (d a b imm : ℕ) → StartFits (built row d a b imm)
@@ -174,9 +174,9 @@ start-fits Emits d a b imm = tt
 start-fits (Marks addressable) d a b imm = omega arith
 start-fits Missing d a b imm = tt
 
--- its eight bytes are there, its op has a row, and a start is in imm's low half
+-- its eight bytes are there, its op is one, and a start is in imm's low half
 abbrev Within : List ℕ → ℕ → Decoded → Type 0
-Within code i (Valid v) = (i < length code / instructionSize) × (fieldsAt code i .op < length rows) × StartFits v
+Within code i (Valid v) = (i < length code / instructionSize) × (fieldsAt code i .op < ops) × StartFits v
 Within code i (Fault k) = Unit
 
 decoded-within : (code : List ℕ) (i n m : ℕ) (v : Instruction) → decodeAt code i n m ≡ Valid v → Within code i (Valid v)
@@ -193,7 +193,7 @@ module _ (code : List ℕ) (i n m : ℕ) (b : Bytes code) where
   decoded-reads (Valid v) e =
       let w = decoded-within code i n m v (sym e) in
       let same = sym (decoded-encoding code i n m v (sym e)) in
-      record { there = w .0; same = same; row = subst (λ (f : Fields). f .op < length rows) same (w .1); fits = decoded-fits code i n m v b (sym e); start = w .2 }
+      record { there = w .0; same = same; known = subst (λ (f : Fields). f .op < ops) same (w .1); fits = decoded-fits code i n m v b (sym e); start = w .2 }
   decoded-reads (Fault k) e = (fault-place code i n m k (sym e), λ v s. never (encoding-decodes code i n m v s) e)
     where
       never : {v : Instruction} → decodeAt code i n m ≡ Valid v → Fault k ≡ decodeAt code i n m → ⊥

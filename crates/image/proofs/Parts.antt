@@ -8,12 +8,6 @@ use lib.Seq.{take-all, take-nil, length-take-le, getD-drop}
 use Rattle.image.specs.Words.{Bytes}
 use Rattle.image.specs.Format.{partOf}
 
--- the default does not matter where there is an entry
-pub getD-any : {A : Type 0} (l : List A) (i : ℕ) (d e : A) → i < length l → getD l i d ≡ getD l i e
-getD-any [] i d e h = absurd (omega arith)
-getD-any (x ∷ l) zero d e h = refl
-getD-any (x ∷ l) (suc i) d e h = getD-any l i d e (omega arith)
-
 -- the rest of a list, taken whole
 pub rest-whole : (s : List ℕ) (at : ℕ) → partOf s at (length s - at) ≡ drop at s
 rest-whole s at = take-all (length s - at) (drop at s) (omega (arith, length-drop at s))

@@ -1,4 +1,4 @@
--- The number and the fields that document 01's table gives for each case of the decoded instruction, and what a decoded answer says by
+-- The number and the fields that document 01's table (ops 21 to 24: 02, L1) gives for each case of the decoded instruction, and what a decoded answer says by
 -- them. `decode` promises this beside its equation with `decodeAt`; `decoded-reads` and `reads-decoded` in proofs/EncodingLaws.antt say that
 -- each of the two follows from the other.
 use Prim.Native.Nat.{ℕ, _+_, _*_, _/_, _^_, _<_}
@@ -9,7 +9,7 @@ use lib.ListN.{length}
 use Rattle.rules.specs.declared.Operation.{Operation}
 use Rattle.rules.specs.declared.Operation.the-variants.{Add, Sub, Mul, And, Or, Xor, Shl, Shr, Sar, Eq, Ltu}
 use Rattle.image.specs.Format.{instructionSize}
-use Rattle.image.specs.Rows.{rows, literalMark, Fields, fieldsAt}
+use Rattle.image.specs.Rows.{literalMark, Fields, fieldsAt}
 use Rattle.image.specs.Accepted.{Fits}
 use Rattle.image.specs.declared.Operand.{Operand}
 use Rattle.image.specs.declared.Operand.the-variants.{Register, Literal}
@@ -38,14 +38,18 @@ opOf Sar = 10
 opOf Eq = 11
 opOf Ltu = 12
 
--- A word is not widened, and has no signed load: in the place of its op stands a number without a row.
+-- how many ops there are: refusal 5 begins at op 25 (02, L1)
+abbrev pub ops : ℕ
+ops = 25
+
+-- A word is not widened, and has no signed load: in the place of its op stands the first number that is none.
 unfoldable pub loadOp : Width → Widening → ℕ
 loadOp Byte Zero = 13
 loadOp Word Zero = 14
 loadOp Half Zero = 21
 loadOp Byte Sign = 22
 loadOp Half Sign = 23
-loadOp Word Sign = length rows
+loadOp Word Sign = ops
 
 unfoldable pub storeOp : Width → ℕ
 storeOp Byte = 15
@@ -88,11 +92,11 @@ StartFits (Jump a target) = Unit
 StartFits (Emit a port) = Unit
 StartFits (Mark addressable start size) = start < 2 ^ 16
 
--- the eight bytes at index i of the code are there, they are the instruction's fields, its op has a row, and the others are in range
+-- the eight bytes at index i of the code are there, they are the instruction's fields, its op is one, and the others are in range
 pub record StandsAt (code : List ℕ) (i n m : ℕ) (instruction : Instruction) : Type 0 where
   pub there : i < length code / instructionSize
   pub same : fieldsAt code i ≡ encoded instruction
-  pub row : encoded instruction .op < length rows
+  pub known : encoded instruction .op < ops
   pub fits : Fits n m instruction
   pub start : StartFits instruction
 

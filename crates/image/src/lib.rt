@@ -22,11 +22,11 @@ pub enum Operand {
     Literal(Data),
 }
 
-// How much of memory a load or store moves.
+// How much of memory a load or store moves, in the order of their ops.
 pub enum Width {
     Byte,
-    Half,
     Word,
+    Half,
 }
 
 // What a load puts above the bytes that it moves: zeros, or copies of their top bit.

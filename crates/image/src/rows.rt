@@ -1,4 +1,4 @@
-// The table of instructions (document 01, What a card holds).
+// The table of instructions (document 01, What a card holds; ops 21 to 24: 02, L1).
 use super::Data;
 use super::Decoded;
 use super::Instruction;
@@ -27,38 +27,6 @@ enum Row {
     Missing,
 }
 
-// How many ops there are.
-const OPS: usize = 25;
-
-// The row of op 0, of op 1, ..
-const ROWS: [Row; OPS] = [
-    Row::Stops,
-    Row::Moves,
-    Row::Computes(Operation::Add),
-    Row::Computes(Operation::Sub),
-    Row::Computes(Operation::Mul),
-    Row::Computes(Operation::And),
-    Row::Computes(Operation::Or),
-    Row::Computes(Operation::Xor),
-    Row::Computes(Operation::Shl),
-    Row::Computes(Operation::Shr),
-    Row::Computes(Operation::Sar),
-    Row::Computes(Operation::Eq),
-    Row::Computes(Operation::Ltu),
-    Row::Loads(Width::Byte, Widening::Zero),
-    Row::Loads(Width::Word, Widening::Zero),
-    Row::Stores(Width::Byte),
-    Row::Stores(Width::Word),
-    Row::Jumps,
-    Row::Emits,
-    Row::Marks(true),
-    Row::Marks(false),
-    Row::Loads(Width::Half, Widening::Zero),
-    Row::Loads(Width::Byte, Widening::Sign),
-    Row::Loads(Width::Half, Widening::Sign),
-    Row::Stores(Width::Half),
-];
-
 const REGISTERS: u8 = format::REGISTERS as u8;
 
 // In the place of a register's number: the operand is the literal imm.
@@ -70,8 +38,34 @@ const HALF: u32 = 0x1_0000;
 fn row_of(op: u8) -> Row
     ensures { λ r. ⌜ r ≡ rowOf op ⌝ }
 {
-    let k = op as usize;
-    if k < OPS { ROWS[k] } else { Row::Missing }
+    match op {
+        0 => Row::Stops,
+        1 => Row::Moves,
+        2 => Row::Computes(Operation::Add),
+        3 => Row::Computes(Operation::Sub),
+        4 => Row::Computes(Operation::Mul),
+        5 => Row::Computes(Operation::And),
+        6 => Row::Computes(Operation::Or),
+        7 => Row::Computes(Operation::Xor),
+        8 => Row::Computes(Operation::Shl),
+        9 => Row::Computes(Operation::Shr),
+        10 => Row::Computes(Operation::Sar),
+        11 => Row::Computes(Operation::Eq),
+        12 => Row::Computes(Operation::Ltu),
+        13 => Row::Loads(Width::Byte, Widening::Zero),
+        14 => Row::Loads(Width::Word, Widening::Zero),
+        15 => Row::Stores(Width::Byte),
+        16 => Row::Stores(Width::Word),
+        17 => Row::Jumps,
+        18 => Row::Emits,
+        19 => Row::Marks(true),
+        20 => Row::Marks(false),
+        21 => Row::Loads(Width::Half, Widening::Zero),
+        22 => Row::Loads(Width::Byte, Widening::Sign),
+        23 => Row::Loads(Width::Half, Widening::Sign),
+        24 => Row::Stores(Width::Half),
+        _ => Row::Missing,
+    }
 }
 
 fn operand_ok(b: u8, imm: u32) -> bool

@@ -9,7 +9,7 @@ use native.Mathlib.Decide.{decLt}
 use native.Mathlib.Omega.{arith}
 use lib.Arith.{digits-mod}
 use lib.Dec.{eqb}
-use lib.Pow.{pow-pos, pow-mono, pow-add, shr-lt, shr-shr, shl-shr, field, mod-mod-pow, mod-pow-add}
+use lib.Pow.{pow-pos, pow-mono, pow-add, shr-shr, shl-shr, field, mod-mod-pow, mod-pow-add}
 use lib.Bits.{bitAnd, bitOr, bitXor, differ, and-shr, or-shr, xor-shr, and-step, or-step, xor-step}
 use Rattle.rules.specs.Word.{bit, copies}
 
@@ -40,11 +40,6 @@ zero-or-one i x = ⊎-elim (λ e. inl e) (λ (p : zero < bit i x). inr (omega (a
 pub bit-high : (n i x : ℕ) → x < 2 ^ n → n ≤ i → bit i x ≡ 0
 unfolding bit
 bit-high n i x h l = ap (λ (m : ℕ). m % 2) (div-eq-of-lt (lt-of-lt-of-le h (pow-mono l)))
-
--- the top bit of a number of 1 + n bits
-pub bit-top : (n x : ℕ) → x < 2 ^ (1 + n) → bit n x ≡ x / 2 ^ n
-unfolding bit
-bit-top n x h = mod-eq-of-lt (shr-lt 1 n h)
 
 -- ---- an operation that works digit by digit
 module _ (op f : ℕ → ℕ → ℕ)

@@ -1,16 +1,15 @@
--- Bytes of a number and the number of some bytes: each undoes the other, and both keep the agreement, over any number of bytes.
+-- Bytes of a number and the number of some bytes: each undoes the other, and both keep the agreement, over any number of bytes; and so does
+-- widening by their sign.
 use mathlib.Core.Path.{_≡_, sym, ap, _∙_, subst}
 use mathlib.Core.Logic.{_⊎_, inl, inr, ⊎-elim}
-use mathlib.Core.List.{List}
 use Prim.Native.Nat.{ℕ, zero, suc, _+_, _-_, _*_, _/_, _%_, _^_, _≤_, _<_, min, max}
 use native.Mathlib.Nat.{mod-lt, mod-eq-of-lt, div-eq-of-lt, lt-of-lt-of-le}
 use native.Mathlib.Omega.{arith}
 use lib.Pow.{pow-pos, pow-mono, ones-lt, shl-lt, shl-exact, high, low, field, mod-mod-pow, mod-pow-add}
-use lib.ListN.{length, getD}
 use lib.Bits.{bitOr, or-lt, or-shifted-r, or-zero-r}
 use Rattle.rules.specs.Word.{bit, copies}
 use Rattle.rules.specs.Shadows.{above, SWiden}
-use Rattle.rules.specs.Bytes.{byteOf, placed, joined, joinOf}
+use Rattle.rules.specs.Bytes.{byteOf, placed, joined}
 use Rattle.rules.specs.Agreement.{Alike}
 use Rattle.rules.proofs.Bits.{lt-or-ge, bit-lt, bit-mod, bit-high, bit-or, bit-shr, bit-shl-low, bit-shl-high, bit-not, bit-ones, bit-copies, copies-lt}
 use Rattle.rules.proofs.Agreement.{alike-self, alike-wider, alike-or, Moves, alike-moved}
@@ -95,10 +94,6 @@ byte-joined (suc n) k f h l = ⊎-elim (below (byte-joined n k f (λ j i. h j (o
     top m =
         subst (λ (j : ℕ). byteOf j (joined (suc n) f) ≡ f j) (omega arith)
         (ap (λ (a : ℕ). a % 2 ^ 8) (ap (λ (a : ℕ). a / 2 ^ (8 * n)) (joined-suc n f fits) ∙ high (f n) (8 * n) fits) ∙ mod-eq-of-lt (h n (omega arith)))
-
--- the same of a list
-pub byte-join : (bs : List ℕ) (k : ℕ) → ((j : ℕ) → j < length bs → getD bs j 0 < 2 ^ 8) → k < length bs → byteOf k (joinOf bs) ≡ getD bs k 0
-byte-join bs k h l = byte-joined (length bs) k (λ j. getD bs j 0) h l
 
 -- ---- agreement
 byte-moves : (n k : ℕ) → Moves n (byteOf k)

@@ -27,7 +27,7 @@ ZWiden v = v
 abbrev pub above : ℕ → ℕ
 above n = inverted (2 ^ (8 * n) - 1)
 
--- n bytes wider, with copies of their top bit in the new places, which are as undefined as it is; a signed load does the same to data (02, L1)
+-- n bytes as a word, with copies of their top bit in the places above, which are as undefined as it is; a signed load does the same to data (02, L1)
 abbrev pub SWiden : ℕ → ℕ → ℕ
 SWiden n v = bitOr v (copies (8 * n - 1) (above n) v)
 

@@ -13,7 +13,7 @@ pub fn zwiden(b: u8) -> u32
     b as u32
 }
 
-// The place of the top bit of so many bytes.
+// The place of the top bit of so many bytes; of none, 0.
 fn top_of(size: u32) -> u32
     requires { ⌜ size < 4 ⌝ }
     ensures { λ r. ⌜ r ≡ 8 * size - 1 ⌝ }
@@ -32,7 +32,7 @@ fn places_above(size: u32) -> u32
     !((1 << (8 * size)) - 1)
 }
 
-// SWiden of so many bytes to a word: the new places are copies of their top bit.
+// SWiden of a number of so many bytes: copies of their top bit are laid over the places above.
 pub fn swiden(size: u32, x: u32) -> u32
     ensures { λ r. ⌜ r ≡ SWiden size x ⌝ }
 {

@@ -1,7 +1,7 @@
 // The shadow rules (document 01, "Shadow rules"; ADD and SUB: 02, L13; EQ: 02, L4). The first three
-// functions are abstract operations of the Memcheck paper, under its names; ZWiden is in bytes.rt. The
-// rules of the operations on two operands have one signature: same says that both operands are one
-// register; x and y are their data, v and w their V words. A rule may leave some of these unread.
+// functions are abstract operations of the Memcheck paper, under its names; ZWiden and SWiden are in
+// bytes.rt. The rules of the operations on two operands have one signature: same says that both operands
+// are one register; x and y are their data, v and w their V words. A rule may leave some of these unread.
 use super::Data;
 use super::Shadow;
 use super::actions;

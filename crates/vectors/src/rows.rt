@@ -197,7 +197,8 @@ const TABLE: [Fields; FIRST] = [
 
 const CASES: usize = 76;
 
-// The same of request L1's rows, and ops with no row.
+// The same of request L1's rows, and ops with no row. In a table of their own, as a check takes by the
+// square of a table's length.
 const ADDED: [Fields; 16] = [
     Fields(21, 15, 0, 0, 0xffff_ffff),
     Fields(22, 0, 15, 0, 0),
@@ -218,7 +219,7 @@ const ADDED: [Fields; 16] = [
 ];
 
 // Row i of both; beyond them the first.
-fn fields(i: usize) -> Fields {
+fn fields_at(i: usize) -> Fields {
     if i < FIRST {
         TABLE[i]
     } else if i < CASES {
@@ -252,7 +253,7 @@ fn row(f: Fields) {
 pub fn table() {
     let mut i = 0;
     while i < CASES {
-        row(fields(i));
+        row(fields_at(i));
         i += 1;
     }
 }

@@ -245,4 +245,6 @@ pub fn others() {
     swiden(3, 0x0080_0000);
     swiden(4, 0x8000_0000);
     swiden(5, 0xffff_ffff);
+    swiden(0, 1);
+    swiden(1, 0x100);
 }

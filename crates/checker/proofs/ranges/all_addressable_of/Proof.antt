@@ -4,11 +4,11 @@ use mathlib.Core.Path.{sym}
 use native.Mathlib.Omega.{arith}
 use Rattle.machine.proofs.Relation.{few-bytes}
 use Rattle.checker.proofs.RangeLaws.{some-bytes, access-beyond, marked-whole}
-use Rattle.checker.proofs.ranges.marked.Statement.{statement}
-use Rattle.checker.proofs.ranges.marked.Tie as tie
+use Rattle.checker.proofs.ranges.all_addressable_of.Statement.{statement}
+use Rattle.checker.proofs.ranges.all_addressable_of.Tie as tie
 
-pub marked-spec : {M : Type 1} → statement M
-marked-spec =
+pub all-addressable-of-spec : {M : Type 1} → statement M
+all-addressable-of-spec =
     tie.close
     (tie.spec
     (λ c κs. search needs)
