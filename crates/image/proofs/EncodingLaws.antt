@@ -174,7 +174,7 @@ start-fits Emits d a b imm = tt
 start-fits (Marks addressable) d a b imm = omega arith
 start-fits Missing d a b imm = tt
 
--- its eight bytes are there, its op is one, and a start is in imm's low half
+-- its eight bytes are there, its op is below 25, and a start is in imm's low half
 abbrev Within : List ℕ → ℕ → Decoded → Type 0
 Within code i (Valid v) = (i < length code / instructionSize) × (fieldsAt code i .op < ops) × StartFits v
 Within code i (Fault k) = Unit

@@ -1,5 +1,5 @@
--- The number and the fields that document 01's table (ops 21 to 24: 02, L1) gives for each case of the decoded instruction, and what a decoded answer says by
--- them. `decode` promises this beside its equation with `decodeAt`; `decoded-reads` and `reads-decoded` in proofs/EncodingLaws.antt say that
+-- The number and the fields that document 01's table (ops 21 to 24: 02, L1) gives for each case of the decoded instruction, and what a
+-- decoded answer says by them. `decode` promises this beside its equation with `decodeAt`; `decoded-reads` and `reads-decoded` in proofs/EncodingLaws.antt say that
 -- each of the two follows from the other.
 use Prim.Native.Nat.{ℕ, _+_, _*_, _/_, _^_, _<_}
 use mathlib.Core.Path.{_≡_}
@@ -92,7 +92,7 @@ StartFits (Jump a target) = Unit
 StartFits (Emit a port) = Unit
 StartFits (Mark addressable start size) = start < 2 ^ 16
 
--- the eight bytes at index i of the code are there, they are the instruction's fields, its op is one, and the others are in range
+-- the eight bytes at index i of the code are there, they are the instruction's fields, its op is below 25, and the others are in range
 pub record StandsAt (code : List ℕ) (i n m : ℕ) (instruction : Instruction) : Type 0 where
   pub there : i < length code / instructionSize
   pub same : fieldsAt code i ≡ encoded instruction

@@ -1,6 +1,6 @@
 -- Cases of one step, of the bare machine's loads, of the stop reasons and of the lists, worked out by hand from documents 01 and 02, as
--- tables. `cases-hold`, `bare-hold`, `reasons-hold` and `entries-hold` in proofs/Cases.antt say that the definitions give them. Of 01's pinned cases here are those on a load at the end of
--- memory, on an address that wraps, and on budget 0; the rest are ours.
+-- tables. `cases-hold`, `bare-hold`, `reasons-hold` and `entries-hold` in proofs/Cases.antt say that the definitions give them. Of 01's
+-- pinned cases here are those on a load at the end of memory, on an address that wraps, and on budget 0; the rest are ours.
 use Prim.Native.Nat.{ℕ}
 use mathlib.Core.Bool.{true, false}
 use mathlib.Core.List.{List, [], _∷_, _++_}
@@ -136,7 +136,7 @@ cases =
     ∷ quietly (Compute Xor 1 0 (Literal (record { 0 = 8 }))) (four (8 ∷ 7 ∷ []) (0x100 ∷ 0 ∷ []) bytes defined) [] (four (8 ∷ 0 ∷ []) (0x100 ∷ 0x100 ∷ []) bytes defined)
     ∷ []
 
--- ---- what the bare machine loads: the same data, widened alike, as no bit of its own is undefined
+-- ---- what the bare machine loads: the same data, widened alike
 pub record BareCase : Type 0 where
   pub does : Instruction
   pub value : ℕ

@@ -151,6 +151,14 @@ bit-copies i j mask x = ⊎-elim (λ (z : bit j x ≡ 0). at 0 z ∙ bit-zero i 
     at : (b : ℕ) → bit j x ≡ b → bit i (cond (eqb (bit j x) 1) mask 0) ≡ bit i (cond (eqb b 1) mask 0)
     at b e = ap (λ (n : ℕ). bit i (cond (eqb n 1) mask 0)) e
 
+-- a number with copies of a bit laid over some places
+pub bit-filled : (i j mask x z : ℕ) → bit i (bitOr z (copies j mask x)) ≡ max (bit i z) (min (bit j x) (bit i mask))
+bit-filled i j mask x z = bit-or i z (copies j mask x) ∙ ap (max (bit i z)) (bit-copies i j mask x)
+
+-- the bit of a place that has two names
+pub bit-at : {r : ℕ} (i j x : ℕ) → j ≡ i → r ≡ bit j x → r ≡ bit i x
+bit-at i j x e p = p ∙ ap (λ (k : ℕ). bit k x) e
+
 pub copies-lt : (j x : ℕ) {mask n : ℕ} → mask < n → copies j mask x < n
 unfolding copies
 copies-lt j x h = cond-lt (eqb (bit j x) 1) h (omega arith)

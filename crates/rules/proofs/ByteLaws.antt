@@ -11,7 +11,7 @@ use Rattle.rules.specs.Word.{bit, copies}
 use Rattle.rules.specs.Shadows.{above, SWiden}
 use Rattle.rules.specs.Bytes.{byteOf, placed, joined}
 use Rattle.rules.specs.Agreement.{Alike}
-use Rattle.rules.proofs.Bits.{lt-or-ge, bit-lt, bit-mod, bit-high, bit-or, bit-shr, bit-shl-low, bit-shl-high, bit-not, bit-ones, bit-copies, copies-lt}
+use Rattle.rules.proofs.Bits.{lt-or-ge, bit-lt, bit-mod, bit-high, bit-shr, bit-shl-low, bit-shl-high, bit-not, bit-ones, bit-filled, bit-at, copies-lt}
 use Rattle.rules.proofs.Agreement.{alike-self, alike-wider, alike-or, Moves, alike-moved}
 
 -- eight bits more
@@ -115,15 +115,12 @@ placed-moves n k i =
 -- a bit of n bytes with their sign: its own, or above them their top one
 bit-swiden : (n i x : ℕ) → n ≤ 4 → i < 32 → x < 2 ^ (8 * n) → bit i (SWiden n x) ≡ bit (min i (8 * n - 1)) x
 bit-swiden n i x few l h =
-    bit-or i x (copies (8 * n - 1) (above n) x)
-    ∙ ap (max (bit i x)) (bit-copies i (8 * n - 1) (above n) x ∙ ap (min (bit (8 * n - 1) x)) (bit-not 32 i (2 ^ (8 * n) - 1) l (ones-word n few)))
+    bit-filled i (8 * n - 1) (above n) x x
+    ∙ ap (λ (m : ℕ). max (bit i x) (min (bit (8 * n - 1) x) m)) (bit-not 32 i (2 ^ (8 * n) - 1) l (ones-word n few))
     ∙ ⊎-elim
-    (λ (m : i < 8 * n). at i (omega arith) (omega (arith, bit-ones (8 * n) i m)))
-    (λ (m : 8 * n ≤ i). at (8 * n - 1) (omega arith) (omega (arith, bit-high (8 * n) i (2 ^ (8 * n) - 1) (ones-lt (8 * n)) m, bit-high (8 * n) i x h m, bit-lt (8 * n - 1) x)))
+    (λ (m : i < 8 * n). bit-at (min i (8 * n - 1)) i x (omega arith) (omega (arith, bit-ones (8 * n) i m)))
+    (λ (m : 8 * n ≤ i). bit-at (min i (8 * n - 1)) (8 * n - 1) x (omega arith) (omega (arith, bit-high (8 * n) i (2 ^ (8 * n) - 1) (ones-lt (8 * n)) m, bit-high (8 * n) i x h m, bit-lt (8 * n - 1) x)))
     (lt-or-ge i (8 * n))
-  where
-    at : {r : ℕ} (j : ℕ) → j ≡ min i (8 * n - 1) → r ≡ bit j x → r ≡ bit (min i (8 * n - 1)) x
-    at j e p = p ∙ ap (λ (k : ℕ). bit k x) e
 
 swiden-moves : (n : ℕ) → n ≤ 4 → Moves (8 * n) (SWiden n)
 unfolding Moves

@@ -13,7 +13,7 @@ use Rattle.rules.specs.Word.{bit, allOnes, copies}
 use Rattle.rules.specs.Actions.{amountOf, shlOf, shrOf, freed, sarOf}
 use Rattle.rules.specs.Shadows.{shiftV}
 use Rattle.rules.specs.Agreement.{Alike, Sound}
-use Rattle.rules.proofs.Bits.{lt-or-ge, bit-lt, bit-high, bit-or, bit-mod, bit-shr, bit-shl-low, bit-shl-high, bit-not, bit-ones, bit-copies, copies-lt}
+use Rattle.rules.proofs.Bits.{lt-or-ge, bit-lt, bit-high, bit-mod, bit-shr, bit-shl-low, bit-shl-high, bit-not, bit-ones, bit-filled, bit-at, copies-lt}
 use Rattle.rules.proofs.Congruence.{wrapped-lt}
 use Rattle.rules.proofs.Agreement.{alike-undefined, alike-defined, Moves, alike-moved}
 
@@ -52,20 +52,16 @@ sar-lt x y h = or-lt 32 (shrOf x y) (copies 31 (freed y) x) (shr-lt x y h) (copi
 -- the bit that a right shift brings, and the top bit where none is left
 pub bit-sar : (i x y : ℕ) → i < 32 → x < 2 ^ 32 → bit i (sarOf x y) ≡ bit (min (amountOf y + i) 31) x
 bit-sar i x y l h =
-    bit-or i (shrOf x y) (copies 31 (freed y) x)
-    ∙ ap₂ max (bit-shr i k x)
-    (bit-copies i 31 (freed y) x
-    ∙ ap (min (bit 31 x)) (bit-not 32 i (shrOf allOnes y) l (shr-lt allOnes y (omega arith)) ∙ ap (λ (b : ℕ). 1 - b) (bit-shr i k allOnes)))
+    bit-filled i 31 (freed y) x (shrOf x y)
+    ∙ ap₂ (λ (b m : ℕ). max b (min (bit 31 x) m)) (bit-shr i k x)
+    (bit-not 32 i (shrOf allOnes y) l (shr-lt allOnes y (omega arith)) ∙ ap (λ (b : ℕ). 1 - b) (bit-shr i k allOnes))
     ∙ ⊎-elim
-    (λ (m : k + i < 32). at (k + i) (omega arith) (omega (arith, bit-ones 32 (k + i) m)))
-    (λ (m : 32 ≤ k + i). at 31 (omega arith) (omega (arith, bit-high 32 (k + i) allOnes (omega arith) m, bit-high 32 (k + i) x h m, bit-lt 31 x)))
+    (λ (m : k + i < 32). bit-at (min (k + i) 31) (k + i) x (omega arith) (omega (arith, bit-ones 32 (k + i) m)))
+    (λ (m : 32 ≤ k + i). bit-at (min (k + i) 31) 31 x (omega arith) (omega (arith, bit-high 32 (k + i) allOnes (omega arith) m, bit-high 32 (k + i) x h m, bit-lt 31 x)))
     (lt-or-ge (k + i) 32)
   where
     k : ℕ
     k = amountOf y
-
-    at : {r : ℕ} (j : ℕ) → j ≡ min (k + i) 31 → r ≡ bit j x → r ≡ bit (min (k + i) 31) x
-    at j e p = p ∙ ap (λ (n : ℕ). bit n x) e
 
 pub sar-moves : (y : ℕ) → Moves 32 (λ x. sarOf x y)
 unfolding Moves
