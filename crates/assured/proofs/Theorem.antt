@@ -5,13 +5,15 @@ use mathlib.Core.List.{List, [], _∷_}
 use Rattle.machine.specs.Machine.{World, programOf}
 use Rattle.machine.specs.Lists.{outputPlaces}
 use Rattle.machine.specs.Bare.{bareBegun}
+use Rattle.machine.specs.Frame.{FrameKept}
 use Rattle.machine.specs.Calls.{Began as BeginAnswer, Ran as RunAnswer, beginAnswer, runAnswer}
 use Rattle.soundness.specs.Series.{startedWith, checkerAfter, acceptedBudgets, bareAfter}
 use Rattle.soundness.specs.Claim.{Claim, Demand3}
 use Rattle.soundness.proofs.Theorem.{demand-3}
+use Rattle.soundness.proofs.Frame.{frame-kept}
 use Rattle.checker.specs.declared.State.{State}
 use Rattle.checker.specs.Views.{worldOf}
-use Rattle.assured.specs.Assured.{Held, Interface, RunCalls, Assured}
+use Rattle.assured.specs.Assured.{Held, Interface, RunCalls, Assured, FrameAssured}
 use Rattle.assured.specs.Library as lib
 use Rattle.assured.specs.ForC as c
 
@@ -44,6 +46,10 @@ module _ (calls : Interface) (answers : Answers calls) where
       subst (λ (w : World). Claim s places w (bareAfter (programOf s) places bare (acceptedBudgets s (calls .world h) budgets))) (sym (calls-after s h budgets h′ made))
       (subst (λ (w : World). Claim s places (checkerAfter s w budgets) (bareAfter (programOf s) places bare (acceptedBudgets s w budgets))) (sym (begun .1)) claim)
 
+  pub frame-by : FrameAssured calls
+  unfolding FrameAssured
+  frame-by s b h budgets h′ made = subst (FrameKept (calls .world h)) (sym (calls-after s h budgets h′ made)) (frame-kept .kept s b (calls .world h) budgets)
+
 -- ---- the calls of the crate `checker`
 answers-of-library : Answers lib.library
 answers-of-library =
@@ -61,6 +67,9 @@ answers-of-library =
 pub assured : Assured lib.library
 assured = assured-by lib.library answers-of-library
 
+pub frame-assured : FrameAssured lib.library
+frame-assured = frame-by lib.library answers-of-library
+
 -- ---- the calls for C
 answers-for-c : Answers c.forC
 answers-for-c =
@@ -74,3 +83,6 @@ answers-for-c =
 
 pub assured-for-c : Assured c.forC
 assured-for-c = assured-by c.forC answers-for-c
+
+pub frame-assured-for-c : FrameAssured c.forC
+frame-assured-for-c = frame-by c.forC answers-for-c

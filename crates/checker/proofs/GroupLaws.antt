@@ -63,7 +63,7 @@ mark-law c u addressable start size mark memV memA memV′ memA′ e v a k =
 
 -- ---- loads and stores: V of a is checked and cleared, then the bytes
 pub loaded-register : (width : Width) (widening : Widening) (d a imm : ℕ) → FitsSome (Load width widening d a imm) → d < registers
-loaded-register width widening d a imm f = f .fitting .fits .0
+loaded-register width widening d a imm f = f .fitting .fits .0 .0
 
 pub accessed : (kind : ℕ) (width : Width) (a imm : ℕ) (regs memA : List ℕ) (c u : Counts) (regsV regsV′ l l₂ : List ℕ) (at : ℕ) (whole : Bool)
     → Reports (ifUndefined undefinedAddress (getD regsV a 0) ++ ifBlocked kind at (not whole)) c l u l₂ → regsV′ ≡ set regsV a 0

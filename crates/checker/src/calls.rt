@@ -11,6 +11,7 @@ use super::running;
 use flat::registers;
 use image::Header;
 use image::Refusal;
+use image::format::FRAME_REGISTER;
 use image::refusals::ACCEPTED;
 use rules::Data;
 use rules::Shadow;
@@ -156,7 +157,7 @@ pub fn begin(
     }
     beginning::lay_out(image, found, mem, vbits, abits);
     let mut shadows = [Shadow(u32::MAX); 16];
-    shadows[limits::FRAME_REGISTER] = Shadow(0);
+    shadows[FRAME_REGISTER] = Shadow(0);
     let state = State {
         regs: regs,
         shadows: shadows,

@@ -12,6 +12,3 @@ pub const MOST_OUTPUTS: usize = 256;
 
 // The most steps that a series of runs may take.
 pub const MOST_STEPS: u32 = 1_000_000;
-
-// Register 15, the frame register: the one that is defined at the beginning.
-pub const FRAME_REGISTER: usize = 15;

@@ -1,7 +1,7 @@
 -- How far the fields of a decoded instruction reach, and that every index of an accepted image has one.
 use Prim.Native.Nat.{ℕ, _+_, _*_, _^_, _<_}
 use mathlib.Core.Path.{_≡_, refl, sym, subst}
-use mathlib.Core.Bool.{Bool, true, false, _&&_}
+use mathlib.Core.Bool.{Bool, true, false}
 use mathlib.Core.List.{List}
 use lib.Dec.{ltb, leb, eqb}
 use lib.ListN.{getD}
@@ -9,7 +9,7 @@ use borrow.Author.Tests.{ltb-true, leb-true}
 use Rattle.rules.proofs.ByteLaws.{joined-lt}
 use Rattle.image.specs.Words.{nthWord, Bytes}
 use Rattle.image.specs.Format.{headerSize, instructionSize, ports, fieldM, fieldN, codePart}
-use Rattle.image.specs.Rows.{rowOf, literalMark, isRegister, operandOk, rangeStart, rangeLength, rangeOk, fieldsOk, operandOf, built, fieldsAt, decodeAt}
+use Rattle.image.specs.Rows.{rowOf, literalMark, isRegister, isWritable, operandOk, rangeStart, rangeLength, rangeOk, fieldsOk, operandOf, built, fieldsAt, decodeAt}
 use Rattle.image.specs.Accepted.{Accepted, OperandFits, Fits}
 use Rattle.image.specs.declared.Instruction.{Instruction}
 use Rattle.image.specs.declared.rows.Row.{Row}
@@ -17,8 +17,8 @@ use Rattle.image.specs.declared.rows.Row.the-variants.{Stops, Moves, Com
 use Rattle.image.specs.declared.Decoded.{Decoded}
 use Rattle.image.specs.declared.Decoded.the-variants.{Valid, Fault}
 use Rattle.image.proofs.Parts.{bytes-part}
-use Rattle.image.proofs.Decoding.{access-holds, of-answer}
-use Rattle.image.proofs.Tests.{apart, both, all-four}
+use Rattle.image.proofs.Decoding.{writable-holds, of-answer}
+use Rattle.image.proofs.Tests.{apart, both, all-three, all-four}
 
 pub word-lt : (s : List ℕ) (k : ℕ) → Bytes s → nthWord s k < 2 ^ 32
 unfolding nthWord
@@ -36,14 +36,17 @@ built-fits : (row : Row) (d a b imm n m : ℕ) → imm < 2 ^ 32 → fieldsOk row
 unfolding fieldsOk built
 built-fits Stops d a b imm n m l h = tt
 built-fits Moves d a b imm n m l h =
-    let e2 = both (isRegister d && eqb a 0) (operandOk b imm) h in
-    (ltb-true _ _ (both (isRegister d) (eqb a 0) (e2 .0) .0), operand-fits b imm l (e2 .1))
+    let e = all-three (isWritable d) (eqb a 0) (operandOk b imm) h in
+    (writable-holds d (e .0), operand-fits b imm l (e .2))
 built-fits (Computes op) d a b imm n m l h =
-    let e2 = both (isRegister d && isRegister a) (operandOk b imm) h in
-    let e1 = both (isRegister d) (isRegister a) (e2 .0) in
-    (ltb-true _ _ (e1 .0), ltb-true _ _ (e1 .1), operand-fits b imm l (e2 .1))
-built-fits (Loads width widening) d a b imm n m l h = let e = access-holds d a b h in (e .0, e .1, l)
-built-fits (Stores width) d a b imm n m l h = let e = access-holds d a b h in (e .0, e .1, l)
+    let e = all-three (isWritable d) (isRegister a) (operandOk b imm) h in
+    (writable-holds d (e .0), ltb-true _ _ (e .1), operand-fits b imm l (e .2))
+built-fits (Loads width widening) d a b imm n m l h =
+    let e = all-three (isWritable d) (isRegister a) (eqb b 0) h in
+    (writable-holds d (e .0), ltb-true _ _ (e .1), l)
+built-fits (Stores width) d a b imm n m l h =
+    let e = all-three (isRegister d) (isRegister a) (eqb b 0) h in
+    (ltb-true _ _ (e .0), ltb-true _ _ (e .1), l)
 built-fits Jumps d a b imm n m l h =
     let e = all-four (eqb d 0) (isRegister a) (eqb b 0) (ltb imm n) h in
     (ltb-true _ _ (e .1), ltb-true _ _ (e .3))

@@ -1,23 +1,26 @@
--- What the tests of a row say, and what holds of a decoded answer from what holds of fields that keep their row.
+-- What the tests of a field say, and what holds of a decoded answer from what holds of fields that keep their row.
 use Prim.Native.Nat.{ℕ, _/_, _<_}
 use mathlib.Core.Path.{_≡_, refl}
-use mathlib.Core.Bool.{Bool, true, false, cond, _&&_}
+use mathlib.Core.Bool.{Bool, true, false, cond, not}
 use mathlib.Core.List.{List}
 use lib.Dec.{ltb, eqb}
 use lib.ListN.{length}
-use borrow.Author.Tests.{ltb-true, eqb-true}
-use Rattle.image.specs.Format.{instructionSize, registers}
-use Rattle.image.specs.Rows.{rowOf, isRegister, fieldsOk, built, decoded, Fields, fieldsAt, decodedFrom, decodeAt}
+use borrow.Author.Tests.{ltb-true, eqb-false, not-true, lt-ltb, ne-eqb}
+use Rattle.image.specs.Format.{instructionSize, registers, frameRegister}
+use Rattle.image.specs.Rows.{rowOf, isRegister, isWritable, fieldsOk, built, decoded, Fields, fieldsAt, decodedFrom, decodeAt}
+use Rattle.image.specs.Accepted.{Writable}
 use Rattle.image.specs.declared.Decoded.{Decoded}
 use Rattle.image.specs.declared.Decoded.the-variants.{Valid, Fault}
 use Rattle.image.proofs.Tests.{both}
 
--- the tests of a load or store
-pub access-holds : (d a b : ℕ) → isRegister d && isRegister a && eqb b 0 ≡ true → (d < registers) × (a < registers) × (b ≡ 0)
-access-holds d a b h =
-    let e2 = both (isRegister d && isRegister a) (eqb b 0) h in
-    let e1 = both (isRegister d) (isRegister a) (e2 .0) in
-    (ltb-true _ _ (e1 .0), ltb-true _ _ (e1 .1), eqb-true _ _ (e2 .1))
+-- the test of a register that is written
+pub writable-holds : (d : ℕ) → isWritable d ≡ true → Writable d
+writable-holds d h =
+    let e = both (isRegister d) (not (eqb d frameRegister)) h in
+    (ltb-true _ _ (e .0), eqb-false _ _ (not-true _ (e .1)))
+
+pub writable-passes : (d : ℕ) → Writable d → isWritable d ≡ true
+writable-passes d w = rw (lt-ltb d registers (w .0), ne-eqb d frameRegister (w .1))
 
 module _ (P : Decoded → Type 0) (n m : ℕ) where
   -- of the instruction that these fields make

@@ -2,7 +2,7 @@
 use Prim.Native.Nat.{ℕ, _+_, _*_, _/_, _^_, _<_, _≤_}
 use mathlib.Core.Path.{_≡_, refl, sym, _∙_, ap, subst}
 use mathlib.Core.Logic.{⊎-elim}
-use mathlib.Core.Bool.{Bool, true, false, _&&_}
+use mathlib.Core.Bool.{Bool, true, false}
 use mathlib.Core.List.{List}
 use native.Mathlib.Omega.{arith}
 use lib.Dec.{ltb, eqb}
@@ -12,7 +12,7 @@ use Rattle.rules.specs.declared.Operation.{Operation}
 use Rattle.rules.specs.declared.Operation.the-variants.{Add, Sub, Mul, And, Or, Xor, Shl, Shr, Sar, Eq, Ltu}
 use Rattle.image.specs.Words.{Bytes}
 use Rattle.image.specs.Format.{instructionSize, registers, ports}
-use Rattle.image.specs.Rows.{rows, rowOf, literalMark, isRegister, operandOk, rangeStart, rangeLength, rangeOk, fieldsOk, operandOf, built, decoded, Fields, fieldsAt, decodedFrom, decodeAt}
+use Rattle.image.specs.Rows.{rows, rowOf, literalMark, isRegister, isWritable, operandOk, rangeStart, rangeLength, rangeOk, fieldsOk, operandOf, built, decoded, Fields, fieldsAt, decodedFrom, decodeAt}
 use Rattle.image.specs.Encoding.{fields, opOf, ops, loadOp, storeOp, markOp, operandB, operandImm, encoded, StartFits, StandsAt, ReadsAs}
 use Rattle.image.specs.Accepted.{OperandFits, Fits}
 use Rattle.image.specs.declared.Operand.{Operand}
@@ -27,9 +27,9 @@ use Rattle.image.specs.declared.rows.Row.{Row}
 use Rattle.image.specs.declared.rows.Row.the-variants.{Stops, Moves, Computes, Loads, Stores, Jumps, Emits, Marks, Missing}
 use Rattle.image.specs.declared.Decoded.{Decoded}
 use Rattle.image.specs.declared.Decoded.the-variants.{Valid, Fault}
-use Rattle.image.proofs.Tests.{apart, both, all-four, every-below}
+use Rattle.image.proofs.Tests.{apart, both, all-three, all-four, every-below}
 use Rattle.rules.proofs.Bits.{lt-or-ge}
-use Rattle.image.proofs.Decoding.{access-holds, of-answer}
+use Rattle.image.proofs.Decoding.{writable-passes, of-answer}
 use Rattle.image.proofs.DecodedFits.{decoded-fits, fault-place}
 
 -- ---- from the fields to the instruction and back
@@ -53,14 +53,14 @@ built-back Stops d a b imm n m h =
     let e = all-four (eqb d 0) (eqb a 0) (eqb b 0) (eqb imm 0) h in
     rw (eqb-true d 0 (e .0), eqb-true a 0 (e .1), eqb-true b 0 (e .2), eqb-true imm 0 (e .3))
 built-back Moves d a b imm n m h =
-    let e = both (isRegister d && eqb a 0) (operandOk b imm) h in
-    let o = operand-back b imm (e .1) in
-    rw (eqb-true a 0 (both (isRegister d) (eqb a 0) (e .0) .1), o .0, o .1)
+    let e = all-three (isWritable d) (eqb a 0) (operandOk b imm) h in
+    let o = operand-back b imm (e .2) in
+    rw (eqb-true a 0 (e .1), o .0, o .1)
 built-back (Computes op) d a b imm n m h =
-    let o = operand-back b imm (both (isRegister d && isRegister a) (operandOk b imm) h .1) in
+    let o = operand-back b imm (all-three (isWritable d) (isRegister a) (operandOk b imm) h .2) in
     rw (o .0, o .1)
-built-back (Loads width widening) d a b imm n m h = rw (access-holds d a b h .2)
-built-back (Stores width) d a b imm n m h = rw (access-holds d a b h .2)
+built-back (Loads width widening) d a b imm n m h = rw (eqb-true b 0 (all-three (isWritable d) (isRegister a) (eqb b 0) h .2))
+built-back (Stores width) d a b imm n m h = rw (eqb-true b 0 (all-three (isRegister d) (isRegister a) (eqb b 0) h .2))
 built-back Jumps d a b imm n m h =
     let e = all-four (eqb d 0) (isRegister a) (eqb b 0) (ltb imm n) h in
     rw (eqb-true d 0 (e .0), eqb-true b 0 (e .2))
@@ -145,11 +145,11 @@ unfolding decoded rowOf fieldsOk built encoded
 there Stop i n m g l h = refl
 there (Move d b) i n m g l h =
     let o = operand-there b (h .1) in
-    rw (lt-ltb d registers (h .0), o .0, o .1)
+    rw (writable-passes d (h .0), o .0, o .1)
 there (Compute op d a b) i n m g l h =
     let o = operand-there b (h .2) in
-    rw (row-of-op op, lt-ltb d registers (h .0), lt-ltb a registers (h .1), o .0, o .1)
-there (Load width widening d a imm) i n m g l h = rw (row-of-load width widening g, lt-ltb d registers (h .0), lt-ltb a registers (h .1))
+    rw (row-of-op op, writable-passes d (h .0), lt-ltb a registers (h .1), o .0, o .1)
+there (Load width widening d a imm) i n m g l h = rw (row-of-load width widening g, writable-passes d (h .0), lt-ltb a registers (h .1))
 there (Store width d a imm) i n m g l h = rw (row-of-store width, lt-ltb d registers (h .0), lt-ltb a registers (h .1))
 there (Jump a target) i n m g l h = rw (lt-ltb a registers (h .0), lt-ltb target n (h .1))
 there (Emit a port) i n m g l h = rw (lt-ltb a registers (h .0), lt-ltb port ports (h .1))

@@ -1,8 +1,8 @@
 -- Which small images are accepted, and with which refusal the others are not, worked out by hand from document 01 (When the bench says
--- no) and 02, L1: each number by itself, two at once, the lowest of several indices, and the edges. proofs/AcceptanceCases.antt says that the
+-- no) and 02, L1 and L9: each number by itself, two at once, the lowest of several indices, and the edges. proofs/AcceptanceCases.antt says that the
 -- definitions give them.
-use Prim.Native.Nat.{ℕ}
-use mathlib.Core.List.{List, [], _∷_, _++_}
+use Prim.Native.Nat.{ℕ, _+_}
+use mathlib.Core.List.{List, [], _∷_, _++_, map}
 use lib.ListN.{take, set}
 use Rattle.image.specs.Refusals.{refused}
 use Rattle.image.specs.declared.Refusal.{Refusal}
@@ -58,9 +58,21 @@ fault6 s = set s 64 3
 abbrev fault7 : List ℕ → List ℕ
 fault7 s = set s 72 1
 
--- instruction 1 has these fields, and imm 2
+-- the instruction from this byte on has these fields, and the imm that was there
+abbrev fieldsFrom : (at op d a b : ℕ) → List ℕ → List ℕ
+fieldsFrom at op d a b s = set (set (set (set s at op) (at + 1) d) (at + 2) a) (at + 3) b
+
+-- instruction 0, imm 7
+abbrev firstFields : (op d a b : ℕ) → List ℕ
+firstFields op d a b = fieldsFrom 32 op d a b base
+
+-- instruction 1, imm 2
 abbrev withFields : (op d a b : ℕ) → List ℕ
-withFields op d a b = set (set (set (set base 40 op) 41 d) 42 a) 43 b
+withFields op d a b = fieldsFrom 40 op d a b base
+
+-- instruction 2, imm 0
+abbrev lastFields : (op d a b : ℕ) → List ℕ
+lastFields op d a b = fieldsFrom 48 op d a b base
 
 -- ---- the cases
 pub record RefusalCase : Type 0 where
@@ -70,6 +82,63 @@ pub record RefusalCase : Type 0 where
 abbrev refusalCase : List ℕ → (number index : ℕ) → RefusalCase
 refusalCase image number index = record { image = image; refusal = refused number index }
 
+-- ---- register 15 is not written (02, L9)
+-- ADD to LTU, and the loads
+abbrev computations : List ℕ
+computations = 2 ∷ 3 ∷ 4 ∷ 5 ∷ 6 ∷ 7 ∷ 8 ∷ 9 ∷ 10 ∷ 11 ∷ 12 ∷ []
+
+abbrev loads : List ℕ
+loads = 13 ∷ 14 ∷ 21 ∷ 22 ∷ 23 ∷ []
+
+abbrev frameCases : List RefusalCase
+frameCases =
+    -- each op that writes a register, with d 15 at index 1
+    map (λ op. refusalCase (withFields op 15 1 255) 5 1) computations
+    ++ map (λ op. refusalCase (withFields op 15 1 0) 5 1) loads
+    ++ refusalCase (withFields 1 15 0 255) 5 1
+    -- and with d 14
+    ∷ map (λ op. refusalCase (withFields op 14 1 255) 0 0) computations
+    ++ map (λ op. refusalCase (withFields op 14 1 0) 0 0) loads
+    ++ refusalCase (withFields 1 14 0 255) 0 0
+    -- MOV, ADD, LD8 and LDS16 at index 0
+    ∷ refusalCase (firstFields 1 15 0 255) 5 0
+    ∷ refusalCase (firstFields 2 15 1 255) 5 0
+    ∷ refusalCase (firstFields 13 15 1 0) 5 0
+    ∷ refusalCase (firstFields 23 15 1 0) 5 0
+    -- MOV 15,15, which would change nothing, and ADD 15,15,15 at index 2; MOV 14,15 and ADD 14,15,15
+    ∷ refusalCase (lastFields 1 15 0 15) 5 2
+    ∷ refusalCase (lastFields 2 15 15 15) 5 2
+    ∷ refusalCase (lastFields 1 14 0 15) 0 0
+    ∷ refusalCase (lastFields 2 14 15 15) 0 0
+    -- ST8, ST32 and ST16 of register 15, also at the address that it holds
+    ∷ refusalCase (withFields 15 15 1 0) 0 0
+    ∷ refusalCase (withFields 16 15 1 0) 0 0
+    ∷ refusalCase (withFields 24 15 1 0) 0 0
+    ∷ refusalCase (withFields 15 15 15 0) 0 0
+    ∷ refusalCase (withFields 16 15 15 0) 0 0
+    -- JNZ 15,2 and EMIT 15,2; LD8 and LDS16 at the address in register 15
+    ∷ refusalCase (withFields 17 0 15 0) 0 0
+    ∷ refusalCase (withFields 18 0 15 0) 0 0
+    ∷ refusalCase (withFields 13 14 15 0) 0 0
+    ∷ refusalCase (withFields 23 14 15 0) 0 0
+    -- where d is not used, 15 is not 0: JNZ and EMIT
+    ∷ refusalCase (withFields 17 15 1 0) 5 1
+    ∷ refusalCase (withFields 18 15 1 0) 5 1
+    -- two at once, the lower index: MOV 15 at 0 and op 25 at 1; op 25 at 1 and MOV 15,15 at 2; LD8 to 15 at 1 and STOP with d 1; ADD 15 at 0 and LDS16 to 15 at 1
+    ∷ refusalCase (fault5 (firstFields 1 15 0 255)) 5 0
+    ∷ refusalCase (fault5 (lastFields 1 15 0 15)) 5 1
+    ∷ refusalCase (set (withFields 13 15 1 0) 49 1) 5 1
+    ∷ refusalCase (fieldsFrom 32 2 15 1 255 (withFields 23 15 1 0)) 5 0
+    -- and another fault of the same instruction: ADD with a 16, LD8 with b 1, MOV with a 1
+    ∷ refusalCase (withFields 2 15 16 255) 5 1
+    ∷ refusalCase (withFields 13 15 1 1) 5 1
+    ∷ refusalCase (withFields 1 15 1 255) 5 1
+    -- with another number: 4 goes before, 6 after
+    ∷ refusalCase (fault4 (withFields 1 15 0 255)) 4 0
+    ∷ refusalCase (fault6 (withFields 1 15 0 255)) 5 1
+    ∷ []
+
+-- ---- all of them
 abbrev pub refusalCases : List RefusalCase
 refusalCases =
     -- each by itself, and none
@@ -142,9 +211,9 @@ refusalCases =
     -- OPEN from 6 on of 2 bytes, which is accepted, and of 3: M is 8
     ∷ refusalCase (set (set (set base 48 19) 52 6) 54 2) 0 0
     ∷ refusalCase (set (set (set base 48 19) 52 6) 54 3) 5 2
-    -- ops 21 to 24, LD16, LDS8, LDS16 and ST16, with any two registers and any imm; op 25 has no row, nor has 255
+    -- ops 21 to 24, LD16, LDS8, LDS16 and ST16, with other registers and any imm; op 25 has no row, nor has 255
     ∷ refusalCase (withFields 21 0 1 0) 0 0
-    ∷ refusalCase (withFields 22 15 0 0) 0 0
+    ∷ refusalCase (withFields 22 14 0 0) 0 0
     ∷ refusalCase (withFields 23 0 15 0) 0 0
     ∷ refusalCase (withFields 24 15 15 0) 0 0
     ∷ refusalCase (set (withFields 24 2 1 0) 47 0xFF) 0 0
@@ -185,4 +254,5 @@ refusalCases =
     ∷ refusalCase (set base 64 1) 7 0
     ∷ refusalCase (take 94 (set base 24 2)) 7 0
     ∷ refusalCase (set base 24 4 ++ 0 ∷ []) 7 0
-    ∷ []
+    -- and register 15
+    ∷ frameCases

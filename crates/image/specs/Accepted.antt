@@ -2,10 +2,10 @@
 -- `accepted-image` and `image-accepted` in proofs/AcceptedImage.antt say that the reader accepts these images and no others.
 use Prim.Native.Nat.{ℕ, _+_, _^_, _≤_, _<_}
 use mathlib.Core.Path.{_≡_}
-use mathlib.Core.Logic.{_⊎_}
+use mathlib.Core.Logic.{_⊎_, _≢_}
 use mathlib.Core.List.{List}
 use lib.ListN.{length, take}
-use Rattle.image.specs.Format.{magic, headerSize, mostM, mostN, mostR, mostD, registers, ports, regionsAt, dataAt, sizeOf, fieldM, fieldN, fieldR, fieldD, codeOffset, regionOffset, dataOffset, codePart, regionPart}
+use Rattle.image.specs.Format.{magic, headerSize, mostM, mostN, mostR, mostD, registers, frameRegister, ports, regionsAt, dataAt, sizeOf, fieldM, fieldN, fieldR, fieldD, codeOffset, regionOffset, dataOffset, codePart, regionPart}
 use Rattle.image.specs.Rows.{decodeAt}
 use Rattle.image.specs.Regions.{filledKind, undefinedKind, regionAt, endOf, endBefore, filledSum}
 use Rattle.image.specs.declared.Operand.{Operand}
@@ -55,11 +55,15 @@ abbrev pub OperandFits : Operand → Type 0
 OperandFits (Register r) = r < registers
 OperandFits (Literal x) = x .0 < 2 ^ 32
 
+-- a register that an instruction may write (02, L9)
+abbrev pub Writable : ℕ → Type 0
+Writable d = (d < registers) × (d ≢ frameRegister)
+
 abbrev pub Fits : (n m : ℕ) → Instruction → Type 0
 Fits n m Stop = Unit
-Fits n m (Move d b) = (d < registers) × OperandFits b
-Fits n m (Compute op d a b) = (d < registers) × (a < registers) × OperandFits b
-Fits n m (Load width widening d a imm) = (d < registers) × (a < registers) × (imm < 2 ^ 32)
+Fits n m (Move d b) = Writable d × OperandFits b
+Fits n m (Compute op d a b) = Writable d × (a < registers) × OperandFits b
+Fits n m (Load width widening d a imm) = Writable d × (a < registers) × (imm < 2 ^ 32)
 Fits n m (Store width d a imm) = (d < registers) × (a < registers) × (imm < 2 ^ 32)
 Fits n m (Jump a target) = (a < registers) × (target < n)
 Fits n m (Emit a port) = (a < registers) × (port < ports)

@@ -33,10 +33,15 @@ mostR = 32
 abbrev pub mostD : ℕ
 mostD = 4096
 
--- how many registers and output ports an instruction can name
+-- how many registers an instruction can name
 abbrev pub registers : ℕ
 registers = 16
 
+-- register 15, the frame register: an instruction may read it, and may not write it (02, L9)
+abbrev pub frameRegister : ℕ
+frameRegister = 15
+
+-- how many output ports
 abbrev pub ports : ℕ
 ports = 8
 

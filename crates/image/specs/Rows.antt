@@ -1,12 +1,12 @@
--- The table of instructions (01, What a card holds; ops 21 to 24: 02, L1): the row of each op, which fields keep it, and the instruction that they make.
+-- The table of instructions (01, What a card holds; ops 21 to 24: 02, L1; register 15 is not written: 02, L9): the row of each op, which fields keep it, and the instruction that they make.
 use Prim.Native.Nat.{ℕ, _+_, _*_, _/_, _%_, _^_}
-use mathlib.Core.Bool.{Bool, true, false, cond, _&&_, _||_}
+use mathlib.Core.Bool.{Bool, true, false, cond, not, _&&_, _||_}
 use mathlib.Core.List.{List, [], _∷_}
 use lib.ListN.{length, getD}
 use lib.Dec.{ltb, leb, eqb}
 use Rattle.rules.specs.declared.Operation.the-variants.{Add, Sub, Mul, And, Or, Xor, Shl, Shr, Sar, Eq, Ltu}
 use Rattle.image.specs.Words.{nthWord}
-use Rattle.image.specs.Format.{instructionSize, registers, ports}
+use Rattle.image.specs.Format.{instructionSize, registers, frameRegister, ports}
 use Rattle.image.specs.declared.Operand.{Operand}
 use Rattle.image.specs.declared.Operand.the-variants.{Register, Literal}
 use Rattle.image.specs.declared.Width.the-variants.{Byte, Half, Word}
@@ -58,6 +58,10 @@ literalMark = 255
 abbrev pub isRegister : ℕ → Bool
 isRegister x = ltb x registers
 
+-- a register that an instruction may write: any but the frame register (02, L9)
+abbrev pub isWritable : ℕ → Bool
+isWritable d = isRegister d && not (eqb d frameRegister)
+
 -- B: a register with imm 0, or the literal imm
 abbrev pub operandOk : ℕ → ℕ → Bool
 operandOk b imm = eqb b literalMark || (isRegister b && eqb imm 0)
@@ -75,9 +79,9 @@ rangeOk imm m = leb 1 (rangeLength imm) && leb (rangeStart imm + rangeLength imm
 -- whether the fields d a b imm keep a row, in an image of N instructions and M bytes of memory; an unused field is 0
 unfoldable pub fieldsOk : Row → (d a b imm n m : ℕ) → Bool
 fieldsOk Stops d a b imm n m = eqb d 0 && eqb a 0 && eqb b 0 && eqb imm 0
-fieldsOk Moves d a b imm n m = isRegister d && eqb a 0 && operandOk b imm
-fieldsOk (Computes op) d a b imm n m = isRegister d && isRegister a && operandOk b imm
-fieldsOk (Loads width widening) d a b imm n m = isRegister d && isRegister a && eqb b 0
+fieldsOk Moves d a b imm n m = isWritable d && eqb a 0 && operandOk b imm
+fieldsOk (Computes op) d a b imm n m = isWritable d && isRegister a && operandOk b imm
+fieldsOk (Loads width widening) d a b imm n m = isWritable d && isRegister a && eqb b 0
 fieldsOk (Stores width) d a b imm n m = isRegister d && isRegister a && eqb b 0
 fieldsOk Jumps d a b imm n m = eqb d 0 && isRegister a && eqb b 0 && ltb imm n
 fieldsOk Emits d a b imm n m = eqb d 0 && isRegister a && eqb b 0 && ltb imm ports

@@ -40,9 +40,14 @@ pub const FILLED: u32 = 1;
 
 pub const UNDEFINED: u32 = 2;
 
-// How many registers and output ports an instruction can name.
+// How many registers an instruction can name.
 pub const REGISTERS: usize = 16;
 
+// Register 15, the frame register: an instruction may read it, and may not write it (02, L9). At the
+// beginning it is the one that is defined.
+pub const FRAME_REGISTER: usize = 15;
+
+// How many output ports an instruction can name.
 pub const PORTS: u32 = 8;
 
 // The most bytes that an image has.

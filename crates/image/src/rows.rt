@@ -1,4 +1,5 @@
-// The table of instructions (document 01, What a card holds; ops 21 to 24: 02, L1).
+// The table of instructions (document 01, What a card holds; ops 21 to 24: 02, L1; register 15 is not
+// written: 02, L9).
 use super::Data;
 use super::Decoded;
 use super::Instruction;
@@ -11,7 +12,7 @@ use super::format::INSTRUCTION;
 use super::format::PORTS;
 use super::words;
 ghost use mathlib.Core.Path.{_≡_};
-ghost use Rattle.image.specs.Rows.{rowOf, operandOk, rangeOk, fieldsOk, operandOf, built, decoded, decodeAt};
+ghost use Rattle.image.specs.Rows.{rowOf, isWritable, operandOk, rangeOk, fieldsOk, operandOf, built, decoded, decodeAt};
 ghost use Rattle.image.specs.Encoding.{ReadsAs};
 
 // The row of an op, before its fields are looked at; ops above the last have none.
@@ -28,6 +29,8 @@ enum Row {
 }
 
 const REGISTERS: u8 = format::REGISTERS as u8;
+
+const FRAME_REGISTER: u8 = format::FRAME_REGISTER as u8;
 
 // In the place of a register's number: the operand is the literal imm.
 const LITERAL: u8 = 255;
@@ -68,6 +71,13 @@ fn row_of(op: u8) -> Row
     }
 }
 
+// Whether d is a register that an instruction may write: any but the frame register.
+fn writable(d: u8) -> bool
+    ensures { λ r. ⌜ r ≡ isWritable d ⌝ }
+{
+    (d < REGISTERS) & (d != FRAME_REGISTER)
+}
+
 fn operand_ok(b: u8, imm: u32) -> bool
     ensures { λ r. ⌜ r ≡ operandOk b imm ⌝ }
 {
@@ -88,9 +98,9 @@ fn fields_ok(row: Row, d: u8, a: u8, b: u8, imm: u32, n: u32, m: u32) -> bool
 {
     match row {
         Row::Stops => (d == 0) & (a == 0) & (b == 0) & (imm == 0),
-        Row::Moves => (d < REGISTERS) & (a == 0) & operand_ok(b, imm),
-        Row::Computes(_) => (d < REGISTERS) & (a < REGISTERS) & operand_ok(b, imm),
-        Row::Loads(_, _) => (d < REGISTERS) & (a < REGISTERS) & (b == 0),
+        Row::Moves => writable(d) & (a == 0) & operand_ok(b, imm),
+        Row::Computes(_) => writable(d) & (a < REGISTERS) & operand_ok(b, imm),
+        Row::Loads(_, _) => writable(d) & (a < REGISTERS) & (b == 0),
         Row::Stores(_) => (d < REGISTERS) & (a < REGISTERS) & (b == 0),
         Row::Jumps => (d == 0) & (a < REGISTERS) & (b == 0) & (imm < n),
         Row::Emits => (d == 0) & (a < REGISTERS) & (b == 0) & (imm < PORTS),

@@ -6,14 +6,14 @@ use Prim.Native.Nat.{ℕ, _*_}
 use lib.ListN.{replicate, set}
 use Rattle.rules.specs.Bytes.{joined}
 use Rattle.image.specs.Words.{nthWord}
-use Rattle.image.specs.Format.{registers, fieldM}
+use Rattle.image.specs.Format.{registers, frameRegister, fieldM}
 use Rattle.image.specs.Rows.{rowOf, fieldsOk, built, decoded, decodeAt}
 use Rattle.image.specs.Regions.{regionAt, endBefore, regionOk, filledSum}
 use Rattle.image.specs.Refusals.{accepted, firstFault, instructionOk, codeRefusal, regionRefusal, refusalOf}
 use Rattle.image.specs.Example.{example}
 use Rattle.machine.specs.Machine.{programOf}
 use Rattle.machine.specs.Ranges.{written}
-use Rattle.machine.specs.Beginning.{laid, begunMemory, begunV, begunA, frameRegister, begunParts}
+use Rattle.machine.specs.Beginning.{laid, begunMemory, begunV, begunA, begunParts}
 use Rattle.machine.specs.Instructions.{blocked, wayOn, outputsOf}
 use Rattle.machine.specs.Steps.{withRegister, cleared, loadStep, acted, ifUndefined, ifBlocked, undefinedOutput, reportsOf}
 use Rattle.machine.specs.Lists.{reportSize, outputSize, entered, reportsEntered, outputsEntered}

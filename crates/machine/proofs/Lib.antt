@@ -12,6 +12,7 @@ pub mod BeginningBytes
 pub mod CallLaws
 pub mod AllowedRuns
 pub mod Continued
+pub mod FrameLaws
 pub mod Cases
 pub mod CallCases
 pub mod Example

@@ -58,7 +58,7 @@ not-blocked kind at true e = some-made e
 not-blocked kind at false e = refl
 
 -- ---- clearing what is defined changes nothing
-kept-V : (a : ℕ) (vs : List ℕ) → getD vs a 0 ≡ 0 → set vs a 0 ≡ vs
+pub kept-V : (a : ℕ) (vs : List ℕ) → getD vs a 0 ≡ 0 → set vs a 0 ≡ vs
 kept-V a vs e = subst (λ (z : ℕ). set vs a z ≡ vs) e (set-getD vs a 0)
 
 cleared-same : (a : ℕ) (p : Parts) → getD (p .regsV) a 0 ≡ 0 → cleared a p ≡ p

@@ -8,7 +8,7 @@ use lib.ListN.{length, getD, set, replicate}
 use lib.Dec.{eqb}
 use Rattle.rules.specs.Word.{allOnes}
 use Rattle.image.specs.Words.{Bytes}
-use Rattle.image.specs.Format.{registers, fieldM, fieldN, fieldR, fieldD, regionPart, dataPart}
+use Rattle.image.specs.Format.{registers, frameRegister, fieldM, fieldN, fieldR, fieldD, regionPart, dataPart}
 use Rattle.image.specs.Regions.{filledKind, regionAt, filledSum}
 use Rattle.image.specs.declared.Region.{Region}
 use Rattle.machine.specs.Machine.{undefinedByte, definedByte, addressableMark, unaddressableMark, Parts, parts}
@@ -58,10 +58,7 @@ begunV s = laid (layV (regionsOf s)) (fieldR s) (replicate (fieldM s) undefinedB
 unfoldable pub begunA : List ℕ → List ℕ
 begunA s = laid (layA (regionsOf s)) (fieldR s) (replicate (fieldM s) unaddressableMark)
 
--- register 15, the frame register, is the one that is defined
-abbrev pub frameRegister : ℕ
-frameRegister = 15
-
+-- the frame register is the one that is defined
 abbrev pub begunRegsV : List ℕ
 begunRegsV = set (replicate registers allOnes) frameRegister 0
 

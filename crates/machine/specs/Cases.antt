@@ -48,7 +48,7 @@ outcomeOf c =
       next = wayOn (c .does) (c .before .regs) 5;
     }
 
--- two registers and four bytes, all addressable; the first two lists are data and V of the registers, the others of the bytes
+-- registers and four bytes, all addressable; the first two lists are data and V of the registers, the others of the bytes
 abbrev four : (regs regsV mem memV : List ℕ) → Parts
 four regs regsV mem memV = parts regs regsV mem memV (1 ∷ 1 ∷ 1 ∷ 1 ∷ [])
 
@@ -61,6 +61,10 @@ signs = 0x80 ∷ 0x7F ∷ 0x00 ∷ 0x80 ∷ []
 
 abbrev defined : List ℕ
 defined = 0 ∷ 0 ∷ 0 ∷ 0 ∷ []
+
+-- sixteen registers, of which the last holds this with this V; the others 0 and defined
+abbrev sixteen : (x v : ℕ) → Parts
+sixteen x v = four (replicate 15 0 ++ x ∷ []) (replicate 15 0 ++ v ∷ []) bytes defined
 
 -- 64 bytes, all addressable and defined; the last two hold AA and BB
 abbrev sixtyFour : (regs regsV : List ℕ) → Parts
@@ -125,6 +129,11 @@ cases =
     -- EMIT puts out port and value, reported or not
     ∷ case (Emit 1 3) (four (8 ∷ 7 ∷ []) (0 ∷ 9 ∷ []) bytes defined) (report 5 9 ∷ []) (output 3 7 ∷ []) (four (8 ∷ 7 ∷ []) (0 ∷ 0 ∷ []) bytes defined) 6
     ∷ case (Emit 0 3) (four (8 ∷ 7 ∷ []) (0 ∷ 9 ∷ []) bytes defined) [] (output 3 8 ∷ []) (four (8 ∷ 7 ∷ []) (0 ∷ 9 ∷ []) bytes defined) 6
+    -- 02, L9: a report clears V of register 15, which may be undefined in a state that is given, and its data stay; it is stored as any other
+    ∷ case (Jump 15 2) (sixteen 8 0x10) (report 2 0x10 ∷ []) [] (sixteen 8 0) 2
+    ∷ case (Emit 15 3) (sixteen 8 0x10) (report 5 0x10 ∷ []) (output 3 8 ∷ []) (sixteen 8 0) 6
+    ∷ quietly (Load Byte Zero 14 15 0) (sixteen 2 0x10) (report 1 0x10 ∷ []) (four (replicate 14 0 ++ 0x33 ∷ 2 ∷ []) (replicate 16 0) bytes defined)
+    ∷ quietly (Store Byte 15 0 1) (sixteen 8 0x10) [] (four (replicate 15 0 ++ 8 ∷ []) (replicate 15 0 ++ 0x10 ∷ []) (0x11 ∷ 8 ∷ 0x33 ∷ 0x84 ∷ []) (0 ∷ 0x10 ∷ 0 ∷ 0 ∷ []))
     -- OPEN and CLOSE: A 1 or 0, V 255, data stays
     ∷ quietly (Mark true 1 2) (parts (0 ∷ 7 ∷ []) (0 ∷ 9 ∷ []) bytes defined (0 ∷ 0 ∷ 1 ∷ 0 ∷ [])) [] (parts (0 ∷ 7 ∷ []) (0 ∷ 9 ∷ []) bytes (0 ∷ 0xFF ∷ 0xFF ∷ 0 ∷ []) (0 ∷ 1 ∷ 1 ∷ 0 ∷ []))
     ∷ quietly (Mark false 0 2) (parts (0 ∷ 7 ∷ []) (0 ∷ 9 ∷ []) bytes defined (1 ∷ 1 ∷ 1 ∷ 0 ∷ [])) [] (parts (0 ∷ 7 ∷ []) (0 ∷ 9 ∷ []) bytes (0xFF ∷ 0xFF ∷ 0 ∷ 0 ∷ []) (0 ∷ 0 ∷ 1 ∷ 0 ∷ []))

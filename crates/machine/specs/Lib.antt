@@ -9,5 +9,6 @@ pub mod Checker
 pub mod Bare
 pub mod Calls
 pub mod Allowed
+pub mod Frame
 pub mod Cases
 pub mod CallCases

@@ -1,3 +1,4 @@
 pub mod RunsAlike
 pub mod Theorem
+pub mod Frame
 pub mod Samples

@@ -7,7 +7,7 @@ use mathlib.Core.List.{List}
 use lib.ListN.{length, getD}
 use Rattle.rules.specs.Agreement.{Agree}
 use Rattle.image.specs.Words.{Bytes}
-use Rattle.image.specs.Format.{fieldM}
+use Rattle.image.specs.Format.{frameRegister, fieldM}
 use Rattle.machine.specs.Machine.{World, programOf}
 use Rattle.machine.specs.Beginning.{Registers, Memory}
 use Rattle.machine.specs.Lists.{outputPlaces, outputsIn}
@@ -54,7 +54,7 @@ Demand3 =
     → beginAnswer s regs mem memV memA .refusal .number ≡ 0
     -- the bare machine's "register values (15 as on the bench) and M memory bytes of its own"
     → (regs′ mem′ : List ℕ) → Registers regs′ → Memory (fieldM s) mem′
-    → getD regs′ 15 0 ≡ getD regs 15 0
+    → getD regs′ frameRegister 0 ≡ getD regs frameRegister 0
     -- "any report and output list", "and then any number of runs, none too, accepted or refused"
     → (reports outputs budgets : List ℕ)
     → let w = startedWith reports outputs (beginAnswer s regs mem memV memA) in

@@ -1,3 +1,4 @@
 pub mod Series
 pub mod Claim
+pub mod Frame
 pub mod Samples

@@ -3,9 +3,8 @@
 use Prim.Native.Nat.{ℕ}
 use mathlib.Core.List.{List, [], _∷_, _++_}
 use lib.ListN.{replicate, set}
-use Rattle.image.specs.Format.{registers, fieldM}
+use Rattle.image.specs.Format.{registers, frameRegister, fieldM}
 use Rattle.machine.specs.Machine.{World, programOf}
-use Rattle.machine.specs.Beginning.{frameRegister}
 use Rattle.machine.specs.Bare.{Bare, bareBegun}
 use Rattle.machine.specs.Calls.{Began, beginAnswer}
 use Rattle.soundness.specs.Series.{startedWith, checkerAfter, acceptedBudgets, bareAfter}

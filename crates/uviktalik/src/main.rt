@@ -4,6 +4,7 @@ use checker::Counts;
 use checker::State;
 use checker::limits;
 use image::Refusal;
+use image::format::FRAME_REGISTER;
 use image::refusals::ACCEPTED;
 use libc::STDIN_FILENO;
 use libc::STDOUT_FILENO;
@@ -128,7 +129,7 @@ fn run(image: &[u8], state: State, mem: &mut [u8], vbits: &mut [u8], abits: &mut
 // Begins and runs a program with M bytes of memory, all of them zeros, and register 15 equal to M.
 fn check(image: &[u8], m: u32, mem: &mut [u8], vbits: &mut [u8], abits: &mut [u8]) {
     let mut regs = [Data(0); 16];
-    regs[limits::FRAME_REGISTER] = Data(m);
+    regs[FRAME_REGISTER] = Data(m);
     let began = checker::begin(image, regs, mem, vbits, abits);
     let refusal = began.refusal;
     if refusal.number != ACCEPTED {

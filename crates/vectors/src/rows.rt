@@ -134,7 +134,7 @@ struct Fields(u8, u8, u8, u8, u32);
 // that is not 0.
 const TABLE: [Fields; FIRST] = [
     Fields(0, 0, 0, 0, 0),
-    Fields(1, 15, 0, 15, 0),
+    Fields(1, 14, 0, 15, 0),
     Fields(1, 0, 0, 255, 0xdead_beef),
     Fields(2, 1, 2, 3, 0),
     Fields(3, 1, 2, 3, 0),
@@ -147,11 +147,11 @@ const TABLE: [Fields; FIRST] = [
     Fields(10, 1, 2, 3, 0),
     Fields(11, 1, 2, 3, 0),
     Fields(12, 1, 2, 3, 0),
-    Fields(2, 15, 15, 15, 0),
+    Fields(2, 14, 15, 15, 0),
     Fields(2, 1, 2, 255, 9),
     Fields(11, 0, 15, 255, 0x8000_0000),
     Fields(12, 0, 0, 255, 0),
-    Fields(13, 15, 0, 0, 0xffff_ffff),
+    Fields(13, 14, 0, 0, 0xffff_ffff),
     Fields(14, 0, 15, 0, 0),
     Fields(15, 15, 0, 0, 0x0102_0304),
     Fields(16, 0, 15, 0, 1),
@@ -195,14 +195,14 @@ const TABLE: [Fields; FIRST] = [
     Fields(20, 0, 0, 1, 0x0001_0000),
 ];
 
-const CASES: usize = 76;
+const SECOND: usize = 76;
 
 // The same of request L1's rows, and ops with no row. In a table of their own, as a check takes by the
 // square of a table's length.
 const ADDED: [Fields; 16] = [
-    Fields(21, 15, 0, 0, 0xffff_ffff),
+    Fields(21, 14, 0, 0, 0xffff_ffff),
     Fields(22, 0, 15, 0, 0),
-    Fields(23, 15, 15, 0, 0x8000_0000),
+    Fields(23, 14, 15, 0, 0x8000_0000),
     Fields(24, 0, 15, 0, 1),
     Fields(21, 16, 0, 0, 0),
     Fields(21, 0, 0, 255, 0),
@@ -218,12 +218,43 @@ const ADDED: [Fields; 16] = [
     Fields(255, 0, 0, 0, 0),
 ];
 
-// Row i of both; beyond them the first.
+const CASES: usize = 98;
+
+// Register 15 as d (request L9): of each op that writes a register, of MOV also from register 15; and of
+// the stores, whose source it may be.
+const FRAME: [Fields; 22] = [
+    Fields(1, 15, 0, 255, 1),
+    Fields(1, 15, 0, 15, 0),
+    Fields(2, 15, 1, 255, 1),
+    Fields(3, 15, 1, 255, 1),
+    Fields(4, 15, 1, 255, 1),
+    Fields(5, 15, 1, 255, 1),
+    Fields(6, 15, 1, 255, 1),
+    Fields(7, 15, 1, 255, 1),
+    Fields(8, 15, 1, 255, 1),
+    Fields(9, 15, 1, 255, 1),
+    Fields(10, 15, 1, 255, 1),
+    Fields(11, 15, 1, 255, 1),
+    Fields(12, 15, 1, 255, 1),
+    Fields(13, 15, 1, 0, 0),
+    Fields(14, 15, 1, 0, 0),
+    Fields(21, 15, 1, 0, 0),
+    Fields(22, 15, 1, 0, 0),
+    Fields(23, 15, 1, 0, 0),
+    Fields(2, 15, 15, 15, 0),
+    Fields(15, 15, 15, 0, 0),
+    Fields(16, 15, 1, 0, 0),
+    Fields(24, 15, 1, 0, 0),
+];
+
+// Row i of the three; beyond them the first.
 fn fields_at(i: usize) -> Fields {
     if i < FIRST {
         TABLE[i]
-    } else if i < CASES {
+    } else if i < SECOND {
         ADDED[i - FIRST]
+    } else if i < CASES {
+        FRAME[i - SECOND]
     } else {
         TABLE[0]
     }

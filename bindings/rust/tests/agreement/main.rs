@@ -103,7 +103,7 @@ fn the_limits_are_those_of_the_crates() {
     let sizes = sizes + image["REGION"] * image["MOST_R"] + image["MOST_D"];
     for (name, number) in [
         ("REGISTERS", image["REGISTERS"]),
-        ("FRAME_REGISTER", run["FRAME_REGISTER"]),
+        ("FRAME_REGISTER", image["FRAME_REGISTER"]),
         ("PORTS", image["PORTS"]),
         ("MAX_MEMORY", image["MOST_M"]),
         ("MAX_INSTRUCTIONS", image["MOST_N"]),

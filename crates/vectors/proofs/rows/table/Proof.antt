@@ -7,7 +7,7 @@ abbrev Inv-loop : tie.InvT-loop
 Inv-loop i₀ i = Unit
 
 abbrev μ-loop : tie.MeasureT-loop
-μ-loop i₀ i = 76 - i
+μ-loop i₀ i = 98 - i
 
 pub table-spec : {M : Type 1} → statement M
 table-spec =
