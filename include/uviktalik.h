@@ -48,8 +48,9 @@ extern "C" {
  * program that was compiled for another version does not link (undefined reference to
  * `uviktalik_run_..') instead of writing past its buffers. The machine's rules are not in it: under
  * the same version another library may have more instructions, refusals, stop reasons and kinds of
- * report, and finer rules for V bits, by which it reports less. A program that loads the library
- * while it runs asks for the symbols below by their whole names.
+ * report, may refuse an image that this one accepts, and may have finer rules for V bits, by which
+ * it reports less. A program that loads the library while it runs asks for the symbols below by
+ * their whole names.
  */
 #define UVIKTALIK_VERSION 1
 #define uviktalik_read uviktalik_read_1
@@ -59,7 +60,7 @@ extern "C" {
 /* Limits. M, N, R and D are an image's sizes. */
 enum {
     UVIKTALIK_REGISTERS = 16,
-    UVIKTALIK_FRAME_REGISTER = 15,    /* the one that is defined at a beginning */
+    UVIKTALIK_FRAME_REGISTER = 15,    /* defined at a beginning; no instruction may write it */
     UVIKTALIK_PORTS = 8,              /* output ports: 0 to 7 */
     UVIKTALIK_MAX_MEMORY = 4096,      /* M, the bytes of memory: 1 to this */
     UVIKTALIK_MAX_INSTRUCTIONS = 512, /* N, the instructions: 1 to this */
@@ -139,7 +140,8 @@ enum {
     UVIKTALIK_REFUSED_WRONG_MAGIC = 2,     /* its first four bytes are not 54 55 4E 31 */
     UVIKTALIK_REFUSED_OUT_OF_LIMITS = 3,   /* M, N, R or D is out of its limits */
     UVIKTALIK_REFUSED_WRONG_LAYOUT = 4,    /* an offset or the length is not as computed */
-    UVIKTALIK_REFUSED_BAD_INSTRUCTION = 5, /* an instruction breaks its row, or has none */
+    UVIKTALIK_REFUSED_BAD_INSTRUCTION = 5, /* an instruction breaks its row, has none, or
+                                              writes register 15 */
     UVIKTALIK_REFUSED_BAD_REGION = 6,      /* a region breaks its rules */
     UVIKTALIK_REFUSED_WRONG_SUM = 7,       /* D is not the sum of the filled regions' lengths */
     UVIKTALIK_REFUSED_WRONG_SIZE = 8,      /* mem, vbits or abits not of M bytes; a list not
@@ -188,8 +190,9 @@ uint8_t uviktalik_begin(const uint8_t *image, size_t image_size,
  * steps as the budget says. It may be continued from what it left. Refusals 1 to 11.
  *            accepted                                     refused
  *   state    after the last step: registers and V         as it was
- *            words by the rules; index; counts gone up
- *            by the steps, outputs and reports made
+ *            words by the rules, in register 15 what
+ *            was there; index; counts gone up by the
+ *            steps, outputs and reports made
  *   mem, vbits, abits
  *            after the last step, by the rules; a byte    as they were
  *            that no step wrote as it was

@@ -17,7 +17,7 @@ numbers! {
 
     /// How many registers there are.
     REGISTERS: usize = 16;
-    /// The one register that is defined at a beginning.
+    /// The one register that is defined at a beginning, and that no instruction may write.
     FRAME_REGISTER: usize = 15;
     /// How many output ports there are, from 0 on.
     PORTS: u32 = 8;

@@ -51,6 +51,18 @@ fn a_beginning_defines_the_frame_register_alone() {
     assert_eq!(desk.state.index(), 0);
 }
 
+#[test]
+fn runs_keep_the_frame_register() {
+    let mut desk = Desk::of("tests/frame_read");
+    assert_eq!(desk.begin(), Ok(()));
+    for steps in 1..=12 {
+        let reason = if steps < 12 { StopReason::NO_BUDGET } else { StopReason::STOPPED };
+        assert_eq!((desk.run(1), desk.state.steps()), (Ok(reason), steps));
+        assert_eq!(desk.state.regs()[FRAME_REGISTER], 64);
+        assert_eq!(desk.state.regs_v()[FRAME_REGISTER], 0);
+    }
+}
+
 /// Document 01's example: of 16 bytes of memory those from 8 to 11 are a region, of kind 2.
 #[rustfmt::skip]
 const EXAMPLE: [u32; 19] = [
@@ -91,6 +103,7 @@ fn the_code_is_a_part_of_the_image() {
 fn a_refusal_has_its_index_and_its_words() {
     for (name, cause) in [
         ("tests/instruction", Cause::BAD_INSTRUCTION),
+        ("tests/frame", Cause::BAD_INSTRUCTION),
         ("tests/region", Cause::BAD_REGION),
         ("tests/one_byte_more", Cause::WRONG_LAYOUT),
     ] {
