@@ -190,8 +190,8 @@ uint8_t uviktalik_begin(const uint8_t *image, size_t image_size,
  * steps as the budget says. It may be continued from what it left. Refusals 1 to 11.
  *            accepted                                     refused
  *   state    after the last step: registers and V         as it was
- *            words by the rules, in register 15 what
- *            was there; index; counts gone up by the
+ *            words by the rules, the value of register
+ *            15 as it was; index; counts gone up by the
  *            steps, outputs and reports made
  *   mem, vbits, abits
  *            after the last step, by the rules; a byte    as they were

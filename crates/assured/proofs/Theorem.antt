@@ -1,11 +1,11 @@
--- What the calls leave, one after the other, is what the series of demand 3 speaks of; so the claim is about them.
+-- What the calls leave, one after the other, is what the series of demand 3 speaks of; so the claim is about them, and so is what is said of register 15.
 use Prim.Native.Nat.{ℕ}
 use mathlib.Core.Path.{_≡_, sym, ap, _∙_, subst}
 use mathlib.Core.List.{List, [], _∷_}
 use Rattle.machine.specs.Machine.{World, programOf}
 use Rattle.machine.specs.Lists.{outputPlaces}
 use Rattle.machine.specs.Bare.{bareBegun}
-use Rattle.machine.specs.Frame.{FrameKept}
+use Rattle.machine.specs.Frame.{frameOf, FrameKept}
 use Rattle.machine.specs.Calls.{Began as BeginAnswer, Ran as RunAnswer, beginAnswer, runAnswer}
 use Rattle.soundness.specs.Series.{startedWith, checkerAfter, acceptedBudgets, bareAfter}
 use Rattle.soundness.specs.Claim.{Claim, Demand3}
@@ -47,8 +47,15 @@ module _ (calls : Interface) (answers : Answers calls) where
       (subst (λ (w : World). Claim s places (checkerAfter s w budgets) (bareAfter (programOf s) places bare (acceptedBudgets s w budgets))) (sym (begun .1)) claim)
 
   pub frame-by : FrameAssured calls
-  unfolding FrameAssured
-  frame-by s b h budgets h′ made = subst (FrameKept (calls .world h)) (sym (calls-after s h budgets h′ made)) (frame-kept .kept s b (calls .world h) budgets)
+  frame-by =
+      record {
+        kept = λ s b h budgets h′ made. subst (FrameKept (calls .world h)) (sym (calls-after s h budgets h′ made)) (frame-kept .kept s b (calls .world h) budgets);
+        from-beginning = λ s b regs mem memV memA h call budgets h′ made.
+            let begun = answers .begins s regs mem memV memA 0 h call in
+            let started = ap (λ (w : World). checkerAfter s w budgets) (begun .1) in
+            let defined = frame-kept .from-beginning s b regs mem memV memA (begun .0) (calls .world h .reportList) (calls .world h .outputList) budgets in
+            subst (λ (w : World). (frameOf (w .parts .regs) ≡ frameOf regs) × (frameOf (w .parts .regsV) ≡ 0)) (sym (calls-after s h budgets h′ made ∙ started)) defined;
+      }
 
 -- ---- the calls of the crate `checker`
 answers-of-library : Answers lib.library

@@ -1,7 +1,7 @@
 -- Demand 3 of the functions themselves: of whoever begins a program by a call and then runs it by calls, time after time. Of each call its
 -- contract is known and nothing else. The calls of the crate `checker` are in Library.antt, those for C in ForC.antt; the statement is one for both.
--- The claim is that of the crate `soundness`. `assured` and `assured-for-c` in proofs/Theorem.antt are the proofs. Of the same calls, in the same words:
--- register 15 is not written, `frame-assured` and `frame-assured-for-c`.
+-- The claim is that of the crate `soundness`. `assured` and `assured-for-c` in proofs/Theorem.antt are the proofs. `FrameAssured`
+-- says of the same calls that register 15 is not written (02, L9); `frame-assured` and `frame-assured-for-c` are its proofs.
 use Prim.Native.Nat.{ℕ}
 use mathlib.Core.Path.{_≡_}
 use mathlib.Core.List.{List, [], _∷_}
@@ -12,7 +12,7 @@ use Rattle.machine.specs.Machine.{World, programOf}
 use Rattle.machine.specs.Beginning.{Registers, Memory}
 use Rattle.machine.specs.Lists.{outputPlaces}
 use Rattle.machine.specs.Bare.{bareBegun}
-use Rattle.machine.specs.Frame.{FrameKept}
+use Rattle.machine.specs.Frame.{frameOf, FrameKept}
 use Rattle.soundness.specs.Series.{acceptedBudgets, bareAfter}
 use Rattle.soundness.specs.Claim.{Claim}
 
@@ -52,9 +52,12 @@ Assured calls =
     → let places = outputPlaces (calls .world h .outputList) in
     Claim s places (calls .world h′) (bareAfter (programOf s) places (bareBegun s regs′ mem′) (acceptedBudgets s (calls .world h) budgets))
 
--- whatever is in hand, of a beginning or of the caller's own making, any such runs keep register 15 (02, L9)
-unfoldable pub FrameAssured : Interface → Type 0
-FrameAssured calls =
-    (s : List ℕ) → Bytes s
-    → (h : Held (calls .State)) (budgets : List ℕ) (h′ : Held (calls .State)) → RunCalls calls s h budgets h′
-    → FrameKept (calls .world h) (calls .world h′)
+-- register 15 (02, L9)
+pub record FrameAssured (calls : Interface) : Type 0 where
+  -- whatever is in hand, any such runs keep it
+  pub kept : (s : List ℕ) → Bytes s → (h : Held (calls .State)) (budgets : List ℕ) (h′ : Held (calls .State)) → RunCalls calls s h budgets h′
+      → FrameKept (calls .world h) (calls .world h′)
+  -- after an accepted beginning and any such runs it has the value that was handed in, and is defined
+  pub from-beginning : (s : List ℕ) → Bytes s → (regs mem memV memA : List ℕ) (h : Held (calls .State)) → calls .Begins s regs mem memV memA 0 h
+      → (budgets : List ℕ) (h′ : Held (calls .State)) → RunCalls calls s h budgets h′
+      → (frameOf (calls .world h′ .parts .regs) ≡ frameOf regs) × (frameOf (calls .world h′ .parts .regsV) ≡ 0)

@@ -25,7 +25,7 @@ use Rattle.machine.specs.Checker.{stepped}
 use Rattle.checker.specs.declared.Counts.{Counts}
 use Rattle.checker.specs.Views.{world}
 use Rattle.checker.specs.Pieces.{moved, Reports, Accessed, StepsRegisters, StepsParts, StepsUse, StepsOutput, StepsMarks, FitsSome}
-use Rattle.checker.proofs.StepLaws.{none, both-checks, taken}
+use Rattle.checker.proofs.StepLaws.{none, taken}
 
 -- ---- what reports nothing
 pub stop-law : (c u : Counts) (p : Parts) (l outputs : List ℕ) → u ≡ moved (c .index + 1) 0 c → world u p l outputs ≡ stepped Stop (world c p l outputs)

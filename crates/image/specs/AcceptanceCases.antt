@@ -211,7 +211,7 @@ refusalCases =
     -- OPEN from 6 on of 2 bytes, which is accepted, and of 3: M is 8
     ∷ refusalCase (set (set (set base 48 19) 52 6) 54 2) 0 0
     ∷ refusalCase (set (set (set base 48 19) 52 6) 54 3) 5 2
-    -- ops 21 to 24, LD16, LDS8, LDS16 and ST16, with other registers and any imm; op 25 has no row, nor has 255
+    -- ops 21 to 24, LD16, LDS8, LDS16 and ST16, with d and a at the ends of what they may be, and any imm; op 25 has no row, nor has 255
     ∷ refusalCase (withFields 21 0 1 0) 0 0
     ∷ refusalCase (withFields 22 14 0 0) 0 0
     ∷ refusalCase (withFields 23 0 15 0) 0 0

@@ -92,7 +92,8 @@ StartFits (Jump a target) = Unit
 StartFits (Emit a port) = Unit
 StartFits (Mark addressable start size) = start < 2 ^ 16
 
--- the eight bytes at index i of the code are there, they are the instruction's fields, its op is below 25, and the others are in range
+-- the eight bytes at index i of the code are there, they are the instruction's fields, its op is below 25, and the others fit: they are in range,
+-- and a register that it writes is not the frame register
 pub record StandsAt (code : List ℕ) (i n m : ℕ) (instruction : Instruction) : Type 0 where
   pub there : i < length code / instructionSize
   pub same : fieldsAt code i ≡ encoded instruction

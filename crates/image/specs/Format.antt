@@ -41,7 +41,7 @@ registers = 16
 abbrev pub frameRegister : ℕ
 frameRegister = 15
 
--- how many output ports
+-- how many output ports an instruction can name
 abbrev pub ports : ℕ
 ports = 8
 

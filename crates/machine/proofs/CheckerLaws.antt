@@ -80,7 +80,7 @@ module _ (program : Program) where
   run-continued = continued (reasonOf program) (nextOf program) (checker-steady program) (checker-firm program)
 
 -- ---- reports never go down, and a run takes no more steps than its budget
-step-reports : (program : Program) (w : World) → w .counts .reports ≤ nextOf program w .counts .reports
+pub step-reports : (program : Program) (w : World) → w .counts .reports ≤ nextOf program w .counts .reports
 unfolding nextOf stepped counted
 step-reports program w = omega arith
 

@@ -1,29 +1,30 @@
--- Register 15 is kept by every step of an instruction whose fields fit, and so by every run and by every call (02, L9).
-use Prim.Native.Nat.{ℕ, zero, suc, _+_, _≤_, _<_}
+-- Register 15 is kept by every step of an instruction whose fields fit, on both machines, and so by every run and by every call (02, L9).
+use Prim.Native.Nat.{ℕ, suc, _+_, _≤_, _<_}
 use mathlib.Core.Path.{_≡_, refl, sym, ap, subst, _∙_}
-use mathlib.Core.Logic.{_⊎_, inl, inr, _≢_}
+use mathlib.Core.Logic.{inl, inr, _≢_}
 use mathlib.Core.Bool.{Bool, true, false}
-use mathlib.Core.List.{List, [], _∷_, _++_}
+use mathlib.Core.List.{List, _++_}
 use native.Mathlib.Omega.{arith}
 use lib.ListN.{length, getD, set, length-append}
-use lib.Dec.{eqb, eqb·suc-zero}
+use lib.Dec.{eqb}
 use lib.Seq.{getD-set-other}
 use borrow.Author.Tests.{eqb-true, eqb-false}
 use Rattle.image.specs.Words.{Bytes}
 use Rattle.image.specs.Format.{frameRegister, fieldM}
-use Rattle.image.specs.Accepted.{Accepted, Fits}
+use Rattle.image.specs.Accepted.{Fits}
 use Rattle.image.specs.declared.Instruction.{Instruction}
 use Rattle.image.specs.declared.Instruction.the-variants.{Stop, Move, Compute, Load, Store, Jump, Emit, Mark}
 use Rattle.machine.specs.Machine.{Parts, World, Program, programOf}
-use Rattle.machine.specs.Instructions.{addressOf, blocked}
 use Rattle.machine.specs.Steps.{withRegister, cleared, loadStep, storeStep, markStep, acted, undefinedAddress, undefinedCondition, unaddressableLoad, unaddressableStore, undefinedOutput, ifUndefined, ifBlocked, reportsOf}
 use Rattle.machine.specs.Checker.{counted, stepped, reasonOf, nextOf, runOf}
-use Rattle.machine.specs.Bare.{BareParts, Bare, bareActed, bareStepped, traps, orTrap, bareReason, bareNext, bareRun}
+use Rattle.machine.specs.Bare.{BareParts, Bare, bareActed, bareStepped, bareReason, bareNext, bareRun}
 use Rattle.machine.specs.Calls.{Ran, runAnswer}
 use Rattle.machine.specs.Frame.{frameOf, ShadowKept, FrameKept}
 use Rattle.machine.proofs.ProgramLaws.{program-fits}
 use Rattle.machine.proofs.RunLaws.{every-run}
-use Rattle.machine.proofs.CheckerLaws.{Goes, reason-goes, reason-spent}
+use Rattle.machine.proofs.CheckerLaws.{reason-goes, step-reports, reports-grow}
+use Rattle.machine.proofs.BareLaws.{bare-goes}
+use Rattle.machine.proofs.Places.{set-zero}
 use Rattle.machine.proofs.StepLaw.{kept-V}
 use Rattle.machine.proofs.CallLaws.{run-accepted, run-refused, accepted-refusal}
 use Rattle.machine.proofs.AllowedRuns.{allowed-run}
@@ -34,11 +35,6 @@ other-set : (l : List ℕ) (d x : ℕ) → d ≢ frameRegister → frameOf (set 
 other-set l d x h = getD-set-other l d frameRegister x 0 (λ e. h (sym e))
 
 -- V of a is used: it is 0, or reported and cleared
-zeroed : (l : List ℕ) (i : ℕ) → getD (set l i 0) i 0 ≡ 0
-zeroed [] i = refl
-zeroed (x ∷ l) zero = refl
-zeroed (x ∷ l) (suc i) = zeroed l i
-
 used : (kind a : ℕ) (vs : List ℕ) → ShadowKept (frameOf vs) (frameOf (set vs a 0)) 0 (length (ifUndefined kind (getD vs a 0)))
 unfolding ifUndefined
 used kind a vs = go (eqb a frameRegister) (eqb (getD vs a 0) 0) refl refl
@@ -46,7 +42,7 @@ used kind a vs = go (eqb a frameRegister) (eqb (getD vs a 0) 0) refl refl
     go : (t u : Bool) → eqb a frameRegister ≡ t → eqb (getD vs a 0) 0 ≡ u → ShadowKept (frameOf vs) (frameOf (set vs a 0)) 0 (length (ifUndefined kind (getD vs a 0)))
     go false u e z = inl (other-set vs a 0 (eqb-false _ _ e))
     go true true e z = inl (ap frameOf (kept-V a vs (eqb-true _ _ z)))
-    go true false e z = inr (subst (λ (i : ℕ). getD (set vs a 0) i 0 ≡ 0) (eqb-true _ _ e) (zeroed vs a), rw z (omega arith))
+    go true false e z = inr (subst (λ (i : ℕ). getD (set vs a 0) i 0 ≡ 0) (eqb-true _ _ e) (set-zero vs a), rw z (omega arith))
 
 -- by an access, which may report its bytes, too
 used-by-access : (kind at : ℕ) (b : Bool) (a : ℕ) (vs : List ℕ)
@@ -88,12 +84,6 @@ bare-step n m (Jump a target) p f = refl
 bare-step n m (Emit a port) p f = refl
 bare-step n m (Mark addressable start size) p f = refl
 
--- where the bare machine has no reason to stop, none of the four holds
-no-reason : (trap : Bool) (reason : ℕ) → orTrap trap reason ≡ 0 → reason ≡ 0
-unfolding orTrap
-no-reason trap zero e = refl
-no-reason trap (suc r) e = rw (eqb·suc-zero r) at e
-
 -- ---- from one moment to another, and on to a third
 pub record Later (u v : World) : Type 0 where
   pub kept : FrameKept u v
@@ -126,23 +116,22 @@ module _ (program : Program) (m : ℕ) (fits : (i : ℕ) → i < program .count 
   next-later left w e =
       let i : Instruction = program .at (w .counts .index) in
       let k : StepKeeps i (w .parts) = step-keeps (program .count) m i (w .parts) (fits (w .counts .index) (reason-goes program _ left _ _ e .before-end)) in
-      record { kept = record { value = k .value; shadow = counted-on (w .counts .reports) _ (k .shadow) }; reports = omega arith }
-
-  pub run-later : (left : ℕ) (w : World) → Later w (runOf program left w .state)
-  run-later =
-      every-run (reasonOf program) (nextOf program) (λ left w x. Later w (x .state))
-      (λ left r w e. at-once w)
-      (λ w e. at-once w)
-      (λ left w e rest. and-then (next-later (suc left) w e) rest)
+      record { kept = record { value = k .value; shadow = counted-on (w .counts .reports) _ (k .shadow) }; reports = step-reports program w }
 
   pub run-keeps-frame : (left : ℕ) (w : World) → FrameKept w (runOf program left w .state)
-  run-keeps-frame left w = run-later left w .kept
+  run-keeps-frame =
+      every-run (reasonOf program) (nextOf program) (λ left w x. FrameKept w (x .state))
+      (λ left r w e. at-once w .kept)
+      (λ w e. at-once w .kept)
+      (λ left w e rest. and-then (next-later (suc left) w e) (record { kept = rest; reports = reports-grow program left (nextOf program w) }) .kept)
+
+  run-later : (left : ℕ) (w : World) → Later w (runOf program left w .state)
+  run-later left w = record { kept = run-keeps-frame left w; reports = reports-grow program left w }
 
   -- the bare machine's
   bare-next : (places left : ℕ) (c : Bare) → bareReason program places left c ≡ 0 → frameOf (bareNext program c .parts .regs) ≡ frameOf (c .parts .regs)
-  unfolding bareReason bareNext bareStepped
-  bare-next places left c e =
-      bare-step (program .count) m (program .at (c .index)) (c .parts) (fits (c .index) (reason-goes program places left (c .index) _ (no-reason (traps program c) _ e) .before-end))
+  unfolding bareNext bareStepped
+  bare-next places left c e = bare-step (program .count) m (program .at (c .index)) (c .parts) (fits (c .index) (bare-goes program places left c e .before-end))
 
   pub bare-keeps-frame : (places left : ℕ) (c : Bare) → frameOf (bareRun program places left c .state .parts .regs) ≡ frameOf (c .parts .regs)
   bare-keeps-frame places =
@@ -163,6 +152,3 @@ call-later s b w budget = go (eqb (runAnswer s w budget .refusal .number) 0) ref
         let z = eqb-true _ 0 e in
         left-by (run-accepted s w budget z) (run-later (programOf s) (fieldM s) (program-fits s b (allowed-run s w budget (accepted-refusal s w budget z) .image)) budget w)
     go false e = left-by (run-refused s w budget (eqb-false _ 0 e)) (at-once w)
-
-pub call-keeps-frame : (s : List ℕ) → Bytes s → (w : World) (budget : ℕ) → FrameKept w (runAnswer s w budget .world)
-call-keeps-frame s b w budget = call-later s b w budget .kept

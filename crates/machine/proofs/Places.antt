@@ -1,13 +1,19 @@
--- What stands at each place after a range of a list was written.
+-- What stands at each place of a list after an entry was set to 0, and after a range was written.
 use Prim.Native.Nat.{ℕ, zero, suc, _+_, _-_, _≤_, _<_}
 use mathlib.Core.Path.{_≡_, refl, _∙_}
 use mathlib.Core.Logic.{_⊎_, inl, inr, ⊎-elim}
-use mathlib.Core.List.{List}
+use mathlib.Core.List.{List, [], _∷_}
 use native.Mathlib.Omega.{arith}
 use native.Mathlib.Nat.{eq-or-lt-of-le}
-use lib.ListN.{length, getD, length-set}
+use lib.ListN.{length, getD, set, length-set}
 use lib.Seq.{getD-set-same, getD-set-other}
 use Rattle.machine.specs.Ranges.{written}
+
+-- an entry that is set to 0 is 0, past the end, too
+pub set-zero : (l : List ℕ) (i : ℕ) → getD (set l i 0) i 0 ≡ 0
+set-zero [] i = refl
+set-zero (x ∷ l) zero = refl
+set-zero (x ∷ l) (suc i) = set-zero l i
 
 pub length-written : (f : ℕ → ℕ) (l : List ℕ) (at n : ℕ) → length (written f l at n) ≡ length l
 unfolding written

@@ -134,6 +134,7 @@ cases =
     ∷ case (Emit 15 3) (sixteen 8 0x10) (report 5 0x10 ∷ []) (output 3 8 ∷ []) (sixteen 8 0) 6
     ∷ quietly (Load Byte Zero 14 15 0) (sixteen 2 0x10) (report 1 0x10 ∷ []) (four (replicate 14 0 ++ 0x33 ∷ 2 ∷ []) (replicate 16 0) bytes defined)
     ∷ quietly (Store Byte 15 0 1) (sixteen 8 0x10) [] (four (replicate 15 0 ++ 8 ∷ []) (replicate 15 0 ++ 0x10 ∷ []) (0x11 ∷ 8 ∷ 0x33 ∷ 0x84 ∷ []) (0 ∷ 0x10 ∷ 0 ∷ 0 ∷ []))
+    ∷ quietly (Store Word 15 15 0) (sixteen 0 0x10) (report 1 0x10 ∷ []) (four (replicate 16 0) (replicate 16 0) (0 ∷ 0 ∷ 0 ∷ 0 ∷ []) defined)
     -- OPEN and CLOSE: A 1 or 0, V 255, data stays
     ∷ quietly (Mark true 1 2) (parts (0 ∷ 7 ∷ []) (0 ∷ 9 ∷ []) bytes defined (0 ∷ 0 ∷ 1 ∷ 0 ∷ [])) [] (parts (0 ∷ 7 ∷ []) (0 ∷ 9 ∷ []) bytes (0 ∷ 0xFF ∷ 0xFF ∷ 0 ∷ []) (0 ∷ 1 ∷ 1 ∷ 0 ∷ []))
     ∷ quietly (Mark false 0 2) (parts (0 ∷ 7 ∷ []) (0 ∷ 9 ∷ []) bytes defined (1 ∷ 1 ∷ 1 ∷ 0 ∷ [])) [] (parts (0 ∷ 7 ∷ []) (0 ∷ 9 ∷ []) bytes (0xFF ∷ 0xFF ∷ 0 ∷ 0 ∷ []) (0 ∷ 0 ∷ 1 ∷ 0 ∷ []))

@@ -1,6 +1,6 @@
 -- Register 15, the frame register, from one moment to a later one. No instruction of an accepted image writes it (02, L9). A report that it was used undefined
--- sets its V to 0, as it does with every register: that is no write. `run-keeps-frame` and `call-keeps-frame` in proofs/FrameLaws.antt say that it is kept by
--- every run, and by every call; the crate `soundness` says it of every series.
+-- sets its V to 0, as it does with every register: that is no write. `run-keeps-frame` and `bare-keeps-frame` in proofs/FrameLaws.antt say that every
+-- run keeps it; the crate `soundness` says it of every series.
 use Prim.Native.Nat.{ℕ, _<_}
 use mathlib.Core.Path.{_≡_}
 use mathlib.Core.Logic.{_⊎_}

@@ -1,6 +1,6 @@
 -- Register 15 is kept over every series, since every run keeps it.
 use Prim.Native.Nat.{ℕ}
-use mathlib.Core.Path.{_≡_, refl, sym, ap, subst, _∙_}
+use mathlib.Core.Path.{_≡_, refl, ap, _∙_}
 use mathlib.Core.Logic.{inl, inr}
 use mathlib.Core.List.{List, [], _∷_}
 use Rattle.image.specs.Words.{Bytes}
@@ -11,12 +11,12 @@ use Rattle.machine.specs.Machine.{World, programOf}
 use Rattle.machine.specs.Beginning.{begunParts}
 use Rattle.machine.specs.Bare.{Bare, bareRun}
 use Rattle.machine.specs.Calls.{Began, beginAnswer, runAnswer}
-use Rattle.machine.specs.Frame.{frameOf, ShadowKept, FrameKept}
+use Rattle.machine.specs.Frame.{frameOf, ShadowKept}
 use Rattle.machine.proofs.ProgramLaws.{program-fits}
 use Rattle.machine.proofs.CallLaws.{begin-accepted}
 use Rattle.machine.proofs.FrameLaws.{Later, at-once, and-then, call-later, bare-keeps-frame}
 use Rattle.soundness.specs.Series.{startedWith, checkerAfter, bareAfter}
-use Rattle.soundness.specs.Frame.{FrameTheorem}
+use Rattle.soundness.specs.Frame.{FrameStays}
 
 series-later : (s : List ℕ) → Bytes s → (w : World) (budgets : List ℕ) → Later w (checkerAfter s w budgets)
 unfolding checkerAfter
@@ -34,7 +34,7 @@ bare-series s b a places c [] = refl
 bare-series s b a places c (budget ∷ budgets) =
     bare-series s b a places (bareRun (programOf s) places budget c .state) budgets ∙ bare-keeps-frame (programOf s) (fieldM s) (program-fits s b a) places budget c
 
-pub frame-kept : FrameTheorem
+pub frame-kept : FrameStays
 unfolding begunParts
 frame-kept =
     record {

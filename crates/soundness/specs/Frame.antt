@@ -10,8 +10,9 @@ use Rattle.machine.specs.Calls.{beginAnswer}
 use Rattle.machine.specs.Frame.{frameOf, FrameKept}
 use Rattle.soundness.specs.Series.{startedWith, checkerAfter, bareAfter}
 
-pub record FrameTheorem : Type 0 where
-  -- on the checker: any bytes as an image, any state with its buffers and lists, runs with any budgets, accepted or refused
+pub record FrameStays : Type 0 where
+  -- on the checker: any bytes as an image, any state with its buffers and lists, runs with any budgets, accepted or refused. A run with budget j leaves the state after
+  -- j steps, so this is said of every step
   pub kept : (s : List ℕ) → Bytes s → (w : World) (budgets : List ℕ) → FrameKept w (checkerAfter s w budgets)
   -- so from an accepted beginning it has the value that was handed in, and is defined
   pub from-beginning : (s : List ℕ) → Bytes s → (regs mem memV memA : List ℕ) → beginAnswer s regs mem memV memA .refusal .number ≡ 0

@@ -130,8 +130,8 @@ const FIRST: usize = 60;
 // op, d, a, b and imm.
 struct Fields(u8, u8, u8, u8, u32);
 
-// Every row of document 01 at the ends of its fields; then one step past an end, and an unused field
-// that is not 0.
+// Every row of document 01 at the ends of its fields; then past an end, and an unused field that is not
+// 0. Register 15 as d is in a table of its own, below.
 const TABLE: [Fields; FIRST] = [
     Fields(0, 0, 0, 0, 0),
     Fields(1, 14, 0, 15, 0),
@@ -220,7 +220,7 @@ const ADDED: [Fields; 16] = [
 
 const CASES: usize = 98;
 
-// Register 15 as d (request L9): of each op that writes a register, of MOV also from register 15; and of
+// Register 15 as d (request L9): of each op that writes a register, of MOV and ADD also from it; and of
 // the stores, whose source it may be.
 const FRAME: [Fields; 22] = [
     Fields(1, 15, 0, 255, 1),
