@@ -15,12 +15,12 @@ pub enum Answer {
 }
 
 impl Answer {
-    /// The refusal's number, if there was a call.
-    pub fn number(&self) -> Option<u32> {
+    /// The refusal's number and index, if there was a call.
+    pub fn refusal(&self) -> Option<(u32, u32)> {
         match self {
-            Answer::Read(header, _) => Some(header.number),
-            Answer::Begun(began) => Some(began.number),
-            Answer::Ran(ran) => Some(ran.number),
+            Answer::Read(header, _) => Some((header.number, header.index)),
+            Answer::Begun(began) => Some((began.number, began.index)),
+            Answer::Ran(ran) => Some((ran.number, ran.index)),
             Answer::Panicked(_) | Answer::Nothing => None,
         }
     }

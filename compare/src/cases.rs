@@ -258,10 +258,15 @@ pub struct Kind {
     pub make: fn(&mut Prng) -> Case,
 }
 
-pub const KINDS: [Kind; 15] = [
+pub const KINDS: [Kind; 17] = [
     Kind { name: "straight arithmetic", share: 14, make: |p| of_program(p, programs::straight) },
     Kind { name: "sums one by one", share: 8, make: |p| one_by_one(p, programs::sums) },
     Kind { name: "half words one by one", share: 8, make: half_words_one_by_one },
+    Kind {
+        name: "register 15 one by one",
+        share: 3,
+        make: |p| one_by_one(p, programs::frame_uses),
+    },
     Kind { name: "loads and stores", share: 14, make: |p| of_program(p, programs::accesses) },
     Kind { name: "OPEN and CLOSE", share: 8, make: |p| of_program(p, programs::ranges) },
     Kind { name: "jumps", share: 8, make: |p| of_program(p, programs::jumps) },
@@ -273,7 +278,8 @@ pub const KINDS: [Kind; 15] = [
     Kind { name: "one part damaged", share: 5, make: |p| damaged(p, 1, 0) },
     Kind { name: "two or three damaged", share: 5, make: |p| damaged(p, 2, 1) },
     Kind { name: "bytes damaged", share: 4, make: |p| damaged(p, 0, 1) },
-    Kind { name: "raw bytes", share: 1, make: raw },
+    Kind { name: "d damaged to register 15", share: 3, make: |p| of_made(p, damage::frame_named) },
+    Kind { name: "raw bytes", share: 1, make: |p| of_made(p, damage::raw) },
 ];
 
 fn damaged(prng: &mut Prng, parts: u32, whole: u32) -> Case {
@@ -283,8 +289,8 @@ fn damaged(prng: &mut Prng, parts: u32, whole: u32) -> Case {
     of_bytes(prng, bytes)
 }
 
-fn raw(prng: &mut Prng) -> Case {
-    let bytes = damage::raw(prng);
+fn of_made(prng: &mut Prng, maker: fn(&mut Prng) -> (Vec<u8>, u32)) -> Case {
+    let bytes = maker(prng);
     of_bytes(prng, bytes)
 }
 

@@ -1,4 +1,5 @@
-//! Demand 3 tried from outside: the checker and the bare machine side by side, with other leftovers.
+//! Demand 3 tried from outside: the checker and the bare machine side by side, with other leftovers. With it
+//! goes what document 02's request L9 makes true: register 15 is kept on both.
 
 mod clause;
 mod tally;
@@ -9,9 +10,11 @@ use crate::bare::{Bare, TRAPPED};
 use crate::calls::{self, Answer};
 use crate::cases::{self, Budget, Call, Desk};
 use crate::clean;
+use crate::damage;
 use crate::edges;
+use crate::frame::Frame;
 use crate::guard::guarded;
-use crate::images::{hex, Image};
+use crate::images::{hex, Image, FRAME};
 use crate::prng::Prng;
 use crate::programs::{self, Maker};
 use crate::types::Engine;
@@ -36,10 +39,15 @@ const ANY_PROGRAM: [Maker; 6] = [
     programs::legal,
 ];
 
+/// A refusal's number and index, zeros if there is none.
+type Refusal = (u32, u32);
+
+const ACCEPTED: Refusal = (0, 0);
+
 /// What went wrong in a claim case.
 enum Wrong {
-    /// Demand 3 speaks of accepted beginnings only, but document 01 accepts every claim image.
-    Refused,
+    /// Another answer of the beginning than the documents', which is the second.
+    Began(Refusal, Refusal),
     Broken(Broken),
 }
 
@@ -56,7 +64,7 @@ impl Failure {
     /// The clause, if it is the claim that is broken.
     pub fn clause(&self) -> Option<Clause> {
         match &self.wrong {
-            Wrong::Refused => None,
+            Wrong::Began(..) => None,
             Wrong::Broken(broken) => Some(broken.clause),
         }
     }
@@ -67,7 +75,9 @@ impl fmt::Display for Failure {
         writeln!(out, "claim: --seed {} --claim {}", self.seed, self.case)?;
         writeln!(out, "  image {}", self.image)?;
         match &self.wrong {
-            Wrong::Refused => write!(out, "  the beginning was refused"),
+            Wrong::Began(answer, due) => {
+                write!(out, "  the beginning gave {answer:?}, not {due:?}")
+            }
             Wrong::Broken(broken) => write!(out, "  broken after {} steps: {broken}", self.steps),
         }
     }
@@ -107,14 +117,16 @@ impl Pair<'_> {
         let registers = cases::registers(prng, image.m);
         let opposite = prng.one_in(2);
         let mut other = registers.map(|word| if opposite { !word } else { prng.word() });
-        other[15] = registers[15];
+        other[usize::from(FRAME)] = registers[usize::from(FRAME)];
         let leftovers: Vec<u8> =
             desk.mem.iter().map(|&byte| if opposite { !byte } else { prng.byte() }).collect();
         let start = (desk.clone(), registers);
         match calls::make(checker, &mut desk, Call::Begin(registers)) {
-            Answer::Begun(began) if began.number == 0 => {}
             Answer::Panicked(message) => return Err(Wrong::Broken(panicked(message))),
-            _ => return Err(Wrong::Refused),
+            answer => match answer.refusal() {
+                None | Some(ACCEPTED) => {}
+                Some(refusal) => return Err(Wrong::Began(refusal, ACCEPTED)),
+            },
         }
         let bare = guarded(|| Bare::begin(&desk.image, &other, &leftovers));
         let bare = bare.map_err(|message| Wrong::Broken(panicked(message)))?;
@@ -200,11 +212,26 @@ impl Pair<'_> {
         Ok(unlike)
     }
 
+    /// Register 15 as it was handed in and defined, on the checker and on the bare machine, which has no V.
+    fn frame(&self, tally: &mut Tally) -> Result<(), Broken> {
+        tally.frames_reported += u64::from(self.desk.state.reports > 0);
+        let (_, registers) = &self.start;
+        let ours = Frame::of(&self.desk.state);
+        let machines = [("checker", ours), ("bare machine", Frame::begun(&self.bare.regs))];
+        for (machine, left) in machines {
+            if let Some(words) = Frame::begun(registers).unkept(left) {
+                return Err(Clause::Frame.broken(format!("{machine}, {words}")));
+            }
+        }
+        Ok(())
+    }
+
     /// Runs until the program has ended twice, reports are made or it is long enough.
     fn series(&mut self, prng: &mut Prng, tally: &mut Tally) -> Result<(), Broken> {
         let step_by_step = !prng.one_in(4);
         let (mut ends, mut reported, mut accepted) = (0, 0, false);
         self.look(tally)?;
+        self.frame(tally)?;
         for calls in 0..MOST_CALLS {
             let reasons = self.run(budget(prng, step_by_step))?;
             accepted |= reasons.is_some();
@@ -214,6 +241,7 @@ impl Pair<'_> {
                 self.look(tally)?;
                 ends += u32::from(self.ended(reasons, tally)?);
             }
+            self.frame(tally)?;
             if ends == 2 || reported > MOST_REPORTED || (!accepted && calls > MOST_REFUSED) {
                 break;
             }
@@ -241,7 +269,37 @@ fn budget(prng: &mut Prng, step_by_step: bool) -> Budget {
     }
 }
 
-/// Claim case k, a program made to run clean or, one time in four, any program.
+/// Both machines on an image; what went wrong with its beginning or in its runs, after how many steps.
+fn try_image(
+    checker: &Engine,
+    image: &Image,
+    prng: &mut Prng,
+    tally: &mut Tally,
+) -> Result<(), (u32, Wrong)> {
+    let mut pair = Pair::begin(checker, image, prng).map_err(|wrong| (0, wrong))?;
+    let answer = pair.series(prng, tally);
+    tally.close(&pair);
+    answer.map_err(|broken| (pair.desk.state.steps, Wrong::Broken(broken)))
+}
+
+/// An image that names register 15 as d of one row, which the beginning has to refuse with 5 there. If it is
+/// accepted, it is run to see what becomes of the register.
+fn try_refused(
+    checker: &Engine,
+    image: &Image,
+    due: Refusal,
+    prng: &mut Prng,
+) -> Result<(), (u32, Wrong)> {
+    match try_image(checker, image, prng, &mut Tally::default()) {
+        Ok(()) => Err((0, Wrong::Began(ACCEPTED, due))),
+        Err((_, Wrong::Began(refusal, _))) if refusal == due => Ok(()),
+        Err((steps, Wrong::Began(refusal, _))) => Err((steps, Wrong::Began(refusal, due))),
+        broken => broken,
+    }
+}
+
+/// Claim case k, a program made to run clean or, one time in four, any program; and then the same program,
+/// but for one row that names register 15 as d.
 pub fn try_case(
     checker: &Engine,
     seed: u64,
@@ -250,13 +308,14 @@ pub fn try_case(
 ) -> Result<(), Failure> {
     let mut prng = Prng::of_case(seed, STREAM, number);
     let maker = if number % 4 == 3 { prng.pick(&ANY_PROGRAM) } else { clean::clean };
-    let image = maker(&mut prng);
-    let failure = |steps, wrong| {
+    let mut image = maker(&mut prng);
+    let failure = |image: &Image, (steps, wrong)| {
         let image = hex(&image.bytes());
         Failure { seed, case: number, image, steps, wrong }
     };
-    let mut pair = Pair::begin(checker, &image, &mut prng).map_err(|wrong| failure(0, wrong))?;
-    let answer = pair.series(&mut prng, tally);
-    tally.close(&pair);
-    answer.map_err(|broken| failure(pair.desk.state.steps, Wrong::Broken(broken)))
+    try_image(checker, &image, &mut prng, tally).map_err(|wrong| failure(&image, wrong))?;
+    let due = (5, damage::name_frame(&mut prng, &mut image));
+    try_refused(checker, &image, due, &mut prng).map_err(|wrong| failure(&image, wrong))?;
+    tally.refused_images += 1;
+    Ok(())
 }

@@ -5,6 +5,7 @@ use std::fmt;
 use crate::calls::{self, Answer, CodePart};
 use crate::cases::{Call, Case, Desk};
 use crate::coverage::Coverage;
+use crate::frame::Frame;
 use crate::images::hex;
 use crate::plan::Plan;
 use crate::types::{Engine, Header, State};
@@ -28,7 +29,8 @@ impl fmt::Display for Mismatch {
     }
 }
 
-/// Case k on both engines, after every call of which answers, state, buffers and lists are compared.
+/// Case k on both engines, after every call of which answers, state, buffers and lists are compared, and
+/// register 15 is looked at.
 pub fn compare(
     engines: [&Engine; 2],
     plan: &Plan,
@@ -67,9 +69,24 @@ fn first_difference(
             let difference = described(names, &answers, &desks);
             return Some((call_words(case, place, &before), difference));
         }
+        if let Some(words) = unkept(call, &before, &answers[0]) {
+            return Some((call_words(case, place, &before), words));
+        }
         look(&before, &answers[0], &desks[0]);
     }
     None
+}
+
+/// What an accepted call, answered alike by both, made of register 15, if that was not kept (document 02,
+/// L9).
+fn unkept(call: Call, before: &State, answer: &Answer) -> Option<String> {
+    let (kept, left) = match (call, answer) {
+        (Call::Begin(registers), Answer::Begun(began)) => (Frame::begun(&registers), began.state),
+        (Call::Run(_), Answer::Ran(ran)) => (Frame::of(before), ran.state),
+        _ => return None,
+    };
+    let is_accepted = answer.refusal().is_some_and(|(number, _)| number == 0);
+    kept.unkept(Frame::of(&left)).filter(|_| is_accepted)
 }
 
 fn call_words(case: &Case, place: usize, before: &State) -> String {

@@ -1,5 +1,6 @@
 //! What occurred in the cases, and what should have occurred and did not.
 
+mod frame;
 mod sorts;
 
 use std::fmt::{Display, Write};
@@ -10,6 +11,7 @@ use crate::images::{op, HEADER_BYTES, ROW_BYTES};
 use crate::plan::Plan;
 use crate::systematic::FAMILIES;
 use crate::types::State;
+use frame::Frames;
 use sorts::{Sorts, Step};
 
 pub use sorts::{is_settled, MET_IN};
@@ -37,7 +39,12 @@ pub struct Coverage {
     ops: [[u64; op::COUNT]; MET_IN.len()],
     /// Of those, some ops by their sort.
     sorts: Sorts,
+    /// What was met of register 15.
+    frames: Frames,
 }
+
+/// What is counted, such as "EQ, drawn", with each sort and its count.
+type Counts = (String, Vec<(&'static str, u64)>);
 
 pub fn add(to: &mut [u64], from: &[u64]) {
     for (to, from) in to.iter_mut().zip(from) {
@@ -46,9 +53,14 @@ pub fn add(to: &mut [u64], from: &[u64]) {
 }
 
 /// Each name with its count.
-fn pairs<T: Display>(names: &[T], counts: &[u64]) -> String {
-    let pairs = names.iter().zip(counts).map(|(name, count)| format!("{name} {count}"));
+fn pairs<T: Display>(counts: impl IntoIterator<Item = (T, u64)>) -> String {
+    let pairs = counts.into_iter().map(|(name, count)| format!("{name} {count}"));
     pairs.collect::<Vec<_>>().join(", ")
+}
+
+/// Is a kind of case drawn and not counted?
+fn is_drawn(kind: usize) -> bool {
+    kind >= FAMILIES.len()
 }
 
 impl Default for Coverage {
@@ -60,6 +72,7 @@ impl Default for Coverage {
             reports: Default::default(),
             ops: Default::default(),
             sorts: Default::default(),
+            frames: Default::default(),
         }
     }
 }
@@ -80,6 +93,7 @@ impl Coverage {
         add(&mut self.reasons, &other.reasons);
         add(&mut self.reports, &other.reports);
         self.sorts.add(&other.sorts);
+        self.frames.add(&other.frames);
     }
 
     pub fn case(&mut self, kind: usize) {
@@ -87,7 +101,7 @@ impl Coverage {
     }
 
     pub fn call(&mut self, kind: usize, before: &State, answer: &Answer, after: &Desk) {
-        let Some(number) = answer.number() else {
+        let Some((number, index)) = answer.refusal() else {
             return;
         };
         let of_call = match answer {
@@ -98,6 +112,9 @@ impl Coverage {
         let number = (number as usize).min(NUMBERS - 1);
         self.kinds[kind].numbers[number] += 1;
         self.calls[of_call][number] += 1;
+        if number == 5 {
+            self.frames.refuse(is_drawn(kind), of_call, &after.image, index);
+        }
         if let Answer::Ran(ran) = answer {
             if number == 0 {
                 self.reasons[(ran.reason as usize).min(REASONS - 1)] += 1;
@@ -114,12 +131,14 @@ impl Coverage {
             };
             self.reports[(report[2] as usize).min(REPORT_KINDS - 1)] += 1;
         }
-        let drawn = kind >= FAMILIES.len();
+        let drawn = is_drawn(kind);
         let ops = &mut self.ops[usize::from(drawn)];
         if after.state.steps == before.steps + 1 {
             let row = &after.image[HEADER_BYTES + ROW_BYTES * before.index as usize..];
             ops[usize::from(row[0])] += 1;
-            self.sorts.meet(drawn, &Step { row, before, after });
+            let step = Step { row, before, after };
+            self.sorts.meet(drawn, &step);
+            self.frames.meet(drawn, &step);
         }
         if reason == 1 {
             ops[usize::from(op::STOP)] += 1;
@@ -158,8 +177,8 @@ impl Coverage {
                 look(format!("op {name}, {met_in}"), count);
             }
         }
-        for (what, sorts, counts) in self.sorts.each() {
-            for (sort, &count) in sorts.iter().zip(counts) {
+        for (what, counts) in self.sorts.each().chain(self.frames.each()) {
+            for (sort, count) in counts {
                 look(format!("{what}: {sort}"), count);
             }
         }
@@ -180,17 +199,17 @@ impl Coverage {
         }
         let numbers: String = (1..NUMBERS).map(|number| format!("{number:>7}")).collect();
         let heads = format!("{:<27}{:>8}{:>7}{numbers}{:>10}", "", "cases", "taken", "steps");
-        let numbered = |count: usize| (1..count).map(|k| k.to_string()).collect::<Vec<_>>();
-        let reasons = pairs(&numbered(REASONS), &self.reasons[1..]);
-        let reports = pairs(&numbered(REPORT_KINDS), &self.reports[1..]);
+        let numbered = |counts: &[u64]| pairs(counts.iter().copied().enumerate().skip(1));
+        let (reasons, reports) = (numbered(&self.reasons), numbered(&self.reports));
+        let kinds = format!("stop reasons: {reasons}\nreport kinds: {reports}\n");
         let ops = MET_IN.iter().zip(&self.ops);
-        let ops = ops
-            .map(|(met_in, ops)| format!("single steps, {met_in}: {}\n", pairs(&op::NAMES, ops)));
+        let ops = ops.map(|(met_in, ops)| {
+            format!("single steps, {met_in}: {}\n", pairs(op::NAMES.into_iter().zip(*ops)))
+        });
         let ops: String = ops.collect();
-        let line = |(what, sorts, counts): (String, &[&str], &[u64])| {
-            format!("single steps of {what}: {}\n", pairs(sorts, counts))
-        };
-        let sorts: String = self.sorts.each().map(line).collect();
-        format!("{heads}\n{table}stop reasons: {reasons}\nreport kinds: {reports}\n{ops}{sorts}")
+        let line = |(what, counts): Counts| format!("{what}: {}\n", pairs(counts));
+        let sorts = self.sorts.each().map(|counts| "single steps of ".to_string() + &line(counts));
+        let sorts: String = sorts.chain(self.frames.each().map(line)).collect();
+        format!("{heads}\n{table}{kinds}{ops}{sorts}")
     }
 }

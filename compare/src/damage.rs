@@ -2,7 +2,7 @@
 
 use crate::edges;
 use crate::images::{
-    op, set_word, word_at, Image, Region, Row, HEADER_BYTES, MAGIC, MOST_DATA, MOST_MEMORY,
+    op, set_word, word_at, Image, Region, Row, FRAME, HEADER_BYTES, MAGIC, MOST_DATA, MOST_MEMORY,
     MOST_REGIONS, MOST_ROWS,
 };
 use crate::prng::Prng;
@@ -103,6 +103,26 @@ pub fn damaged(prng: &mut Prng, parts: u32, whole: u32) -> (Vec<u8>, u32) {
         damage_bytes(prng, &mut bytes);
     }
     (bytes, image.m)
+}
+
+/// One row made another, all that is wrong with which is that its result goes to register 15; its index.
+pub fn name_frame(prng: &mut Prng, image: &mut Image) -> u32 {
+    let n = image.rows.len();
+    let place = prng.place(n);
+    let op = prng.pick(&[&programs::ARITHMETIC[..], programs::LOADS].concat());
+    let row = programs::legal_of(prng, op, image.m, n as u32);
+    image.rows[place] = Row { d: FRAME, ..row };
+    place as u32
+}
+
+/// An image that names register 15 so, half of them damaged before; its bytes and M.
+pub fn frame_named(prng: &mut Prng) -> (Vec<u8>, u32) {
+    let mut image = small(prng);
+    if prng.one_in(2) {
+        damage_parts(prng, &mut image);
+    }
+    name_frame(prng, &mut image);
+    (image.bytes(), image.m)
 }
 
 /// Bytes that are no image, or begin like one.

@@ -11,6 +11,9 @@ pub const MOST_ROWS: u32 = 512;
 pub const MOST_REGIONS: u32 = 32;
 pub const MOST_DATA: u32 = 4096;
 
+/// The frame register, to which no result goes (document 02, L9).
+pub const FRAME: u8 = 15;
+
 /// The ops' numbers.
 pub mod op {
     pub const STOP: u8 = 0;
@@ -44,6 +47,11 @@ pub mod op {
         "LD8", "LD32", "ST8", "ST32", "JNZ", "EMIT", "OPEN", "CLOSE", "LD16", "LDS8", "LDS16",
         "ST16",
     ];
+
+    /// Does it put a result into register d?
+    pub const fn has_result(op: u8) -> bool {
+        matches!(op, MOV..=LD32 | LD16..=LDS16)
+    }
 
     /// The bytes of a load or store.
     pub const fn width(op: u8) -> u32 {

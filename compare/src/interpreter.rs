@@ -1,6 +1,6 @@
-//! Document 01 taken at its word, with the half words and signed loads of document 02's request L1 and the
-//! rules of EQ, ADD and SUB from its requests L4 and L13: reading, beginning and running, plain and in its
-//! order.
+//! Document 01 taken at its word, with the half words and signed loads of document 02's request L1, the
+//! rules of EQ, ADD and SUB from its requests L4 and L13, and its request L9, which keeps results off
+//! register 15: reading, beginning and running, plain and in its order.
 
 use crate::types::{Began, Buffers, Engine, Header, Lists, Ran, State};
 
@@ -36,6 +36,9 @@ const LDS16: u8 = 23;
 const ST16: u8 = 24;
 
 const LITERAL: u8 = 255;
+
+/// The frame register (02, L9).
+const FRAME: u8 = 15;
 
 const FILLED: u32 = 1;
 const UNDEFINED: u32 = 2;
@@ -115,11 +118,11 @@ fn check_instructions(image: &[u8], header: &Header) -> Result<(), Refusal> {
     Ok(())
 }
 
-/// Does the instruction keep to its row of the table?
+/// Does the instruction keep to its row of the table, and its result off register 15 (02, L9)?
 fn instruction_allowed(bytes: &[u8], header: &Header) -> bool {
     let (op, d, a, b) = (bytes[0], bytes[1], bytes[2], bytes[3]);
     let imm = word(bytes, 4);
-    match op {
+    let in_row = match op {
         STOP => d == 0 && a == 0 && b == 0 && imm == 0,
         MOV => d <= 15 && a == 0 && operand_allowed(b, imm),
         ADD..=LTU => d <= 15 && a <= 15 && operand_allowed(b, imm),
@@ -128,7 +131,13 @@ fn instruction_allowed(bytes: &[u8], header: &Header) -> bool {
         EMIT => d == 0 && a <= 15 && b == 0 && imm <= 7,
         OPEN | CLOSE => d == 0 && a == 0 && b == 0 && span_allowed(imm, header.m),
         _ => false,
-    }
+    };
+    in_row && !(d == FRAME && has_result(op))
+}
+
+/// Ops 1 to 14 and 21 to 23, whose d is a register that they write; a store's is its source.
+fn has_result(op: u8) -> bool {
+    matches!(op, MOV..=LD32 | LD16..=LDS16)
 }
 
 fn operand_allowed(b: u8, imm: u32) -> bool {

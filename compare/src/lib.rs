@@ -12,6 +12,7 @@ pub mod coverage;
 pub mod damage;
 pub mod edges;
 pub mod families;
+pub mod frame;
 pub mod guard;
 pub mod images;
 pub mod interpreter;

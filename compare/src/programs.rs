@@ -2,8 +2,8 @@
 
 use crate::edges;
 use crate::images::{
-    op, Image, Operand, Region, Row, FILLED, MOST_DATA, MOST_MEMORY, MOST_REGIONS, MOST_ROWS,
-    UNDEFINED,
+    op, Image, Operand, Region, Row, FILLED, FRAME, MOST_DATA, MOST_MEMORY, MOST_REGIONS,
+    MOST_ROWS, UNDEFINED,
 };
 use crate::prng::Prng;
 
@@ -36,6 +36,15 @@ pub fn register(prng: &mut Prng) -> u8 {
     prng.below(16) as u8
 }
 
+/// The register as d of an op, or another in place of register 15 where a result would go to it.
+pub fn as_d(prng: &mut Prng, op: u8, register: u8) -> u8 {
+    if op::has_result(op) && register == FRAME {
+        prng.below(FRAME.into()) as u8
+    } else {
+        register
+    }
+}
+
 fn operand(prng: &mut Prng, a: u8) -> Operand {
     match prng.below(6) {
         0 => Operand::Register(a),
@@ -60,8 +69,9 @@ fn range(prng: &mut Prng, op: u8, m: u32) -> Row {
 }
 
 /// A legal row of this op, for M bytes and N rows.
-fn legal_of(prng: &mut Prng, op: u8, m: u32, n: u32) -> Row {
+pub fn legal_of(prng: &mut Prng, op: u8, m: u32, n: u32) -> Row {
     let (d, a) = (register(prng), register(prng));
+    let d = as_d(prng, op, d);
     match op {
         op::STOP => Row::stop(),
         op::MOV => Row::copy(d, operand(prng, d)),
@@ -152,7 +162,25 @@ pub fn half_words(prng: &mut Prng) -> Image {
     let mut image = few_of(prng, &[op::LD16, op::LDS8, op::LDS16, op::ST16]);
     for row in &mut image.rows {
         if prng.one_in(4) {
-            row.d = row.a;
+            row.a = row.d;
+        }
+    }
+    image
+}
+
+/// Rows of which half of the fields that may be register 15 are.
+pub fn frame_uses(prng: &mut Prng) -> Image {
+    let ops = [&ARITHMETIC[..], &ACCESSES, &[op::JNZ, op::EMIT].repeat(4)].concat();
+    let mut image = few_of(prng, &ops);
+    for row in &mut image.rows {
+        if row.op != op::MOV && prng.one_in(2) {
+            row.a = FRAME;
+        }
+        if ARITHMETIC.contains(&row.op) && row.b < FRAME && prng.one_in(2) {
+            row.b = FRAME;
+        }
+        if STORES.contains(&row.op) && prng.one_in(2) {
+            row.d = FRAME;
         }
     }
     image
@@ -165,12 +193,13 @@ pub fn accesses(prng: &mut Prng) -> Image {
     for _ in 0..prng.between(1, 16) {
         let (base, other) = (register(prng), register(prng));
         let part = edges::word(prng);
-        let d = prng.pick(&[base, 15, other]);
+        let d = prng.pick(&[base, FRAME, other]);
         let to = edges::address(prng, m);
-        if prng.one_in(2) {
+        if prng.one_in(2) && base != FRAME {
             rows.push(Row::copy(base, Operand::Literal(part)));
         }
         let op = prng.pick(&ACCESSES);
+        let d = as_d(prng, op, d);
         rows.push(Row::access(op, d, base, to.wrapping_sub(part)));
         if prng.one_in(3) {
             rows.push(legal_of(prng, op, m, 1));
@@ -217,8 +246,7 @@ fn add_loop(prng: &mut Prng, rows: &mut Vec<Row>, m: u32, counters: &[u8]) {
     let ops = [&ARITHMETIC[..], &ACCESSES[..], &RANGES[..], &[op::EMIT]].concat();
     let count = prng.between(1, 10);
     for mut row in rows_of(prng, &ops, m, count) {
-        let writes_d = ARITHMETIC.contains(&row.op) || LOADS.contains(&row.op);
-        if writes_d && COUNTERS.contains(&row.d) {
+        if op::has_result(row.op) && COUNTERS.contains(&row.d) {
             row.d -= 8;
         }
         rows.push(row);

@@ -5,10 +5,10 @@ mod runs;
 
 use crate::cases::{self, Budget, Call, Case};
 use crate::families::{Choices, Family};
-use crate::images::{op, Image, Operand, Region, Row, FILLED, UNDEFINED};
+use crate::images::{op, Image, Operand, Region, Row, FILLED, FRAME, UNDEFINED};
 use crate::prng::Prng;
 
-pub const FAMILIES: [Family<Case>; 19] = [
+pub const FAMILIES: [Family<Case>; 21] = [
     Family { name: "every rule, edge words", make: runs::arithmetic },
     Family { name: "every carry in three bits", make: runs::carry },
     Family { name: "every access, edge address", make: runs::access },
@@ -16,8 +16,10 @@ pub const FAMILIES: [Family<Case>; 19] = [
     Family { name: "every jump", make: runs::jump },
     Family { name: "every output", make: runs::emit },
     Family { name: "every range, run", make: runs::range },
+    Family { name: "every use of register 15", make: runs::frame_used },
     Family { name: "every op number", make: images::op_number },
     Family { name: "every row, edge fields", make: images::row_fields },
+    Family { name: "every op with d 15 or 14", make: images::frame_named },
     Family { name: "every two header words", make: images::header },
     Family { name: "sizes at their limits", make: images::sizes },
     Family { name: "every region rule", make: images::region },
@@ -54,5 +56,6 @@ fn begun_from_bytes(prng: &mut Prng, bytes: Vec<u8>, m: u32, budgets: &[u32]) ->
 }
 
 fn three_rows() -> Vec<Row> {
-    vec![Row::copy(1, Operand::Register(15)), Row::access(op::ST32, 1, 15, 0), Row::emit(15, 7)]
+    let copy = Row::copy(1, Operand::Register(FRAME));
+    vec![copy, Row::access(op::ST32, 1, FRAME, 0), Row::emit(FRAME, 7)]
 }

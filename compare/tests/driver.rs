@@ -4,8 +4,10 @@ use compare::alarms::teeth::{shares, MOST_UNDEFINED, SHARE};
 use compare::alarms::{self, Case, Cases, Stepper, Tally, OPS};
 use compare::calls;
 use compare::cases::Call;
+use compare::claim;
 use compare::compare::compare;
 use compare::coverage::Coverage;
+use compare::frame::Frame;
 use compare::images::{hex, op, Image, Operand, Region, Row, UNDEFINED};
 use compare::interpreter;
 use compare::plan::Plan;
@@ -46,7 +48,10 @@ fn only_damaged_images_are_refused() {
         let name = Plan::kinds()[kind];
         let answer = calls::make(&interpreter::ENGINE, &mut case.desk, Call::Read);
         if !name.contains("damaged") && name != "raw bytes" {
-            assert_eq!(answer.number(), Some(0), "case {number}, {name}");
+            assert_eq!(answer.refusal(), Some((0, 0)), "case {number}, {name}");
+        }
+        if name == "d damaged to register 15" {
+            assert_ne!(answer.refusal(), Some((0, 0)), "case {number}, {name}");
         }
     }
 }
@@ -69,6 +74,90 @@ fn a_difference_is_told_in_words() {
 }
 
 #[test]
+fn register_15_is_kept_unless_its_data_change_or_other_bits_are_undefined() {
+    let given = Frame { data: 7, v: 0x81 };
+    let left = |data, v| given.unkept(Frame { data, v });
+    assert_eq!([left(7, 0x81), left(7, 0)], [None, None]);
+    assert_eq!(left(6, 0x81).as_deref(), Some("register 15 was 0x7, is 0x6"));
+    assert_eq!(left(6, 0).as_deref(), Some("register 15 was 0x7, is 0x6"));
+    for v in [0x80, 0x83, u32::MAX] {
+        assert_eq!(left(7, v), Some(format!("register 15's V was 0x81, is {v:#x}")));
+    }
+    let begun = Frame::begun(&[7; 16]);
+    assert!(begun.unkept(Frame { data: 7, v: 0 }).is_none());
+    assert!(begun.unkept(Frame { data: 7, v: 1 }).is_some());
+}
+
+fn planted(fault: &str) -> &'static Engine {
+    faults::planted(fault).expect("a planted fault")
+}
+
+/// Both engines have the fault, so that they do not differ.
+#[test]
+fn what_both_engines_make_of_register_15_is_told_in_words() {
+    let plan = Plan::new(1);
+    let first = |fault| {
+        let engines = [planted(fault); 2];
+        let mut found = (0..2000).map(|k| compare(engines, &plan, k, &mut Coverage::default()));
+        found.find_map(|found| found.map(|found| found.difference))
+    };
+    for (fault, words) in [
+        ("begin_register_15", "register 15's V was 0x0, is 0xffffffff"),
+        ("frame_begun_with_m", "register 15 was 0x"),
+        ("frame_set_by_each_run", "register 15 was 0x"),
+        ("frame_counts_reports", "register 15 was 0x"),
+        ("frame_gathers_v", "register 15's V was 0x"),
+        ("frame_written", "register 15 was 0x"),
+    ] {
+        let found = first(fault).expect(fault);
+        assert!(found.starts_with(words), "{fault}: {found}");
+    }
+    assert_eq!(first("frame_uncleared"), None);
+    assert_eq!(first("mov_defined"), None);
+}
+
+/// The words of the first claim case in which the fault, put in the checker's place, fails with such.
+fn claim_failure(fault: &str, words: &str) -> Option<String> {
+    let faulty = planted(fault);
+    let failures =
+        (0..2000).filter_map(|k| claim::try_case(faulty, 1, k, &mut Default::default()).err());
+    failures.map(|failure| failure.to_string()).find(|failure| failure.contains(words))
+}
+
+#[test]
+fn register_15_that_is_not_kept_breaks_the_claim() {
+    for (fault, words) in [
+        ("begin_register_15", "after 0 steps: register 15: checker, register 15's V was 0x0, is"),
+        ("frame_counts_reports", ": register 15: checker, register 15 was 0x"),
+        ("frame_written", ": register 15: checker, register 15 was 0x"),
+        ("frame_written_by_ld8", ": register 15: checker, register 15 was 0x"),
+        ("frame_gathers_v", ": register 15: checker, register 15's V was 0x0, is 0x"),
+        ("frame_results_dropped", ": register 15: bare machine, register 15 was 0x"),
+        ("frame_results_dropped", "the beginning gave (0, 0), not (5, "),
+        ("frame_index_nought", "the beginning gave (5, 0), not (5, "),
+        ("frame_stores_refused", "the beginning gave (5, "),
+    ] {
+        assert!(claim_failure(fault, words).is_some(), "{fault}: {words}");
+    }
+    assert_eq!(claim_failure("frame_highest_index", ""), None);
+}
+
+#[test]
+fn claims_that_leave_register_15_out_are_empty() {
+    let mut tally = claim::Tally::with_needs();
+    for k in 0..200 {
+        assert!(claim::try_case(&interpreter::ENGINE, 1, k, &mut tally).is_ok());
+    }
+    assert_eq!((tally.programs, tally.refused_images), (200, 200));
+    assert!(!tally.is_empty());
+    tally.refused_images -= 1;
+    assert!(tally.is_empty());
+    tally.refused_images += 1;
+    tally.frames_reported = 0;
+    assert!(tally.is_empty());
+}
+
+#[test]
 fn ops_and_sorts_that_were_never_met_are_missed() {
     let missing = Coverage::default().missing();
     for what in [
@@ -76,6 +165,11 @@ fn ops_and_sorts_that_were_never_met_are_missed() {
         "LDS8, counted: unaddressable over a 1",
         "LDS16, drawn: undefined top bit 1",
         "ST16, drawn: high byte at M",
+        "register 15 as d, refused by reading, counted: MOV",
+        "register 15 as d, refused by running, drawn: LDS16",
+        "register 14 as d, drawn: LD8",
+        "register 15, counted: stored by ST16",
+        "register 15, drawn: B of a sum",
     ] {
         assert!(missing.contains(&what.to_string()), "{what}");
     }
@@ -96,7 +190,7 @@ fn an_alarm_case_is_the_same_each_time() {
 fn a_wrong_alarm_is_told_in_words() {
     let cases = Cases::new(1);
     let first = |fault| {
-        let mut stepper = Stepper::new(faults::planted(fault).expect("a planted fault"));
+        let mut stepper = Stepper::new(planted(fault));
         let mut failure =
             |k| alarms::try_case(&mut stepper, &cases, k, &mut Tally::default()).err();
         (0..2000).find_map(&mut failure).expect("it is found").to_string()

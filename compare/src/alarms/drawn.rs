@@ -6,7 +6,7 @@ use super::OPS;
 use crate::edges;
 use crate::images::{op, Operand, Row};
 use crate::prng::Prng;
-use crate::programs::register;
+use crate::programs::{as_d, register};
 
 /// V words of up to twelve undefined bits together.
 fn few_bits(prng: &mut Prng) -> [u32; 2] {
@@ -46,6 +46,7 @@ pub fn drawn(prng: &mut Prng) -> Case {
     let b = (a + 1 + prng.below(15) as u8) % 16;
     let any = register(prng);
     let d = prng.pick(&[a, b, any]);
+    let d = as_d(prng, op, d);
     let [v, w] = if prng.one_in(2) { few_bits(prng) } else { many_bits(prng) };
     let x = if prng.one_in(2) { prng.word() } else { edges::word(prng) };
     let y = if is_shift(op) { amount(prng) } else { beside(prng, x, v | w) };

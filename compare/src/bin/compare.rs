@@ -149,7 +149,7 @@ fn compared(options: &Options, plan: &Plan) -> (Part, usize) {
 
 /// The claim cases.
 fn claimed(options: &Options) -> Part {
-    println!("Demand 3 beside the bare machine\n");
+    println!("Demand 3 beside the bare machine, and register 15 on both\n");
     let (tally, failures) = claims(options.seed, options.cases / 2);
     println!("{}", tally.table());
     if tally.is_empty() {
@@ -175,13 +175,13 @@ fn alarmed(options: &Options) -> Part {
 /// All planted faults.
 fn bitten(options: &Options, plan: &Plan) -> Part {
     let bites = teeth::bites(plan, plan.counted() + options.cases, None);
-    println!("Clauses of demand 3, and how many planted faults break each before any other\n");
+    println!("Clauses of the claim, and how many planted faults break each before any other\n");
     println!("{}", teeth::clause_table(&bites));
     let unbroken = printed("never broken", &teeth::unbroken(&bites));
     println!("Alarms: planted faults that call a bit that does not vary, or not one that does\n");
     println!("{}", teeth::alarm_table(&bites));
     let unfound = printed("never found", &teeth::unfound_alarms(&bites));
-    println!("Planted faults: cases until found, claim cases until demand 3 breaks, and alarms\n");
+    println!("Planted faults: cases until found, claim cases until a clause breaks, and alarms\n");
     println!("{}", teeth::table(&bites));
     let found = bites.iter().filter(|bite| bite.is_found()).count();
     let words = format!(

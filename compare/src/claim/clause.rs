@@ -1,4 +1,5 @@
-//! The clauses of demand 3 by name, so that each can be seen to be broken by some planted fault.
+//! The clauses of demand 3 and that of register 15 by name, so that each can be seen to be broken by some
+//! planted fault.
 
 use std::fmt;
 
@@ -14,12 +15,14 @@ pub enum Clause {
     Mark,
     ByteBits,
     StopReason,
-    /// No clause of demand 3: a call that gives no answer.
+    /// Register 15 is kept, on either machine and after reports, too (document 02, L9).
+    Frame,
+    /// No clause: a call that gives no answer.
     Panic,
 }
 
-/// The clauses of demand 3, in the order in which they are looked at.
-pub const CLAUSES: [Clause; 10] = [
+/// The clauses in the order in which they are looked at, first those of demand 3.
+pub const CLAUSES: [Clause; 11] = [
     Clause::Trap,
     Clause::Steps,
     Clause::Index,
@@ -30,6 +33,7 @@ pub const CLAUSES: [Clause; 10] = [
     Clause::Mark,
     Clause::ByteBits,
     Clause::StopReason,
+    Clause::Frame,
 ];
 
 impl Clause {
@@ -45,6 +49,7 @@ impl Clause {
             Clause::Mark => "mark",
             Clause::ByteBits => "byte bits",
             Clause::StopReason => "stop reason",
+            Clause::Frame => "register 15",
             Clause::Panic => "panic",
         }
     }

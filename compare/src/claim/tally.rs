@@ -29,6 +29,10 @@ pub struct Tally {
     /// Runs that were refused.
     pub refused: u64,
     outputs: u64,
+    /// Looks at register 15 alone, after a report.
+    pub frames_reported: u64,
+    /// Programs that are refused once a row of theirs names register 15 as d.
+    pub refused_images: u64,
     /// Programs that ran clean and would have been reported, or gone otherwise, with the other rule, if
     /// these are looked for.
     needing: Option<[u64; NEEDED.len()]>,
@@ -46,6 +50,8 @@ impl Tally {
         self.differing += other.differing;
         self.refused += other.refused;
         self.outputs += other.outputs;
+        self.frames_reported += other.frames_reported;
+        self.refused_images += other.refused_images;
         for (to, from) in self.needing.iter_mut().flatten().zip(other.needing.iter().flatten()) {
             *to += from;
         }
@@ -71,13 +77,15 @@ impl Tally {
     }
 
     /// Is too little behind the claim: programs clean for dozens of steps, and by each needed rule,
-    /// undefined bits that differ, refused runs, outputs?
+    /// undefined bits that differ, refused runs, outputs; register 15 after a report, and every program
+    /// refused for it?
     pub fn is_empty(&self) -> bool {
         let dozens: u64 = self.clean[3..].iter().sum();
         let few_programs = |&programs: &u64| 8 * programs < self.programs;
         let needing = self.needing.unwrap_or_default();
         let few = few_programs(&dozens) || needing.iter().any(few_programs);
         let few = few || 2 * self.differing < self.looks;
+        let few = few || self.frames_reported == 0 || self.refused_images < self.programs;
         few || self.programs == 0 || self.refused == 0 || self.outputs == 0
     }
 
@@ -96,6 +104,7 @@ impl Tally {
              programs stopped by a report, by clean steps before it: {}\n\
              looks at both machines: {}, of them {} with undefined bits that differ\n\
              refused runs among them: {}; outputs of clean programs: {}\n\
+             looks at register 15 after a report: {}; programs refused for it as d of a row: {}\n\
              clean programs that another rule would report or change, {}\n",
             by_steps(&self.clean),
             by_steps(&self.stopped_by_report),
@@ -103,6 +112,8 @@ impl Tally {
             self.differing,
             self.refused,
             self.outputs,
+            self.frames_reported,
+            self.refused_images,
             needing.join(", ")
         )
     }

@@ -4,6 +4,7 @@
 mod accesses;
 mod sums;
 
+use super::Counts;
 use crate::cases::Desk;
 use crate::images::op;
 use crate::types::State;
@@ -61,14 +62,14 @@ impl Sorts {
         }
     }
 
-    /// What is counted, such as "EQ, counted", with the names of its sorts and their counts.
-    pub fn each(&self) -> impl Iterator<Item = (String, &'static [&'static str], &[u64])> {
+    pub fn each(&self) -> impl Iterator<Item = Counts> + '_ {
         let both = SORTED.iter().zip(&self.0);
         both.flat_map(|(sorted, counts)| {
-            let name = op::NAMES[usize::from(sorted.op)];
-            let named = move |met_in: &str| format!("{name}, {met_in}");
+            let op = op::NAMES[usize::from(sorted.op)];
+            let sorts =
+                |counts: &[u64]| sorted.names.iter().copied().zip(counts.to_vec()).collect();
             let counts = MET_IN.iter().zip(counts);
-            counts.map(move |(met_in, counts)| (named(met_in), sorted.names, &counts[..]))
+            counts.map(move |(met_in, counts)| (format!("{op}, {met_in}"), sorts(counts)))
         })
     }
 }

@@ -5,10 +5,11 @@ use crate::cases::{self, Budget, Call, Case, Desk};
 use crate::damage::header_edges;
 use crate::edges;
 use crate::images::{
-    op, set_word, Image, Operand, Region, Row, FILLED, HEADER_BYTES, MOST_DATA, MOST_MEMORY,
+    op, set_word, Image, Operand, Region, Row, FILLED, FRAME, HEADER_BYTES, MOST_DATA, MOST_MEMORY,
     MOST_REGIONS, MOST_ROWS, UNDEFINED,
 };
 use crate::prng::Prng;
+use crate::programs::{ACCESSES, ARITHMETIC};
 
 pub fn op_number(choices: &mut Choices, prng: &mut Prng) -> Case {
     let op = choices.below(256) as u8;
@@ -50,7 +51,7 @@ pub fn row_fields(choices: &mut Choices, prng: &mut Prng) -> Case {
     let d = choices.pick(&edges::FIELDS);
     let op = choices.below(op::COUNT + 1) as u8;
     let row = Row { op, d, a, b, imm };
-    let mut rows = vec![Row::copy(1, Operand::Register(15)); 3];
+    let mut rows = vec![Row::copy(1, Operand::Register(FRAME)); 3];
     rows[usize::from(d ^ a ^ b) % 3] = row;
     let image = small_image(prng, rows);
     begun(prng, &image, &[1, 4])
@@ -87,7 +88,7 @@ pub fn sizes(choices: &mut Choices, prng: &mut Prng) -> Case {
     let n = choices.pick(&[0, 1, MOST_ROWS - 1, MOST_ROWS, MOST_ROWS + 1]);
     let r = choices.pick(&[0, 1, MOST_REGIONS - 1, MOST_REGIONS, MOST_REGIONS + 1]);
     let d = choices.pick(&[0, 1, MOST_DATA - 1, MOST_DATA, MOST_DATA + 1]);
-    let rows = vec![Row::copy(1, Operand::Register(15)); n as usize];
+    let rows = vec![Row::copy(1, Operand::Register(FRAME)); n as usize];
     let single = |start| Region { start, length: 1, kind: UNDEFINED };
     let mut regions: Vec<Region> = (0..r).map(single).collect();
     if let (Some(last), 1..) = (regions.last_mut(), d) {
@@ -145,30 +146,33 @@ pub fn image_byte(choices: &mut Choices, prng: &mut Prng) -> Case {
 }
 
 /// Causes of refusals, from a part of the image to the state: see the three functions below.
-const CAUSES: usize = 18;
+const CAUSES: usize = 19;
+/// The first cause that is none of the image's.
+const CAUSES_OF_DESK: usize = 13;
 
 fn spoil_part(image: &mut Image, cause: usize) {
     match cause {
         0 => image.m = MOST_MEMORY + 1,
         1 => image.rows[0].op = op::COUNT as u8,
         2 => image.rows[2].d = 16,
-        3 | 4 => {
-            if let Some(region) = image.regions.get_mut(cause - 3) {
+        3 => image.rows[0].d = FRAME,
+        4 | 5 => {
+            if let Some(region) = image.regions.get_mut(cause - 4) {
                 region.kind = 3;
             }
         }
-        5 => image.data.push(0),
+        6 => image.data.push(0),
         _ => {}
     }
 }
 
 fn spoil_bytes(bytes: &mut Vec<u8>, cause: usize) {
     match cause {
-        6 => bytes.truncate(HEADER_BYTES - 1),
-        7 => bytes[0] ^= 1,
-        8 => bytes.push(0),
-        9..=11 => {
-            if let Some(offset) = bytes.get_mut([12, 20, 28][cause - 9]) {
+        7 => bytes.truncate(HEADER_BYTES - 1),
+        8 => bytes[0] ^= 1,
+        9 => bytes.push(0),
+        10..=12 => {
+            if let Some(offset) = bytes.get_mut([12, 20, 28][cause - 10]) {
                 *offset = offset.wrapping_add(1);
             }
         }
@@ -178,11 +182,11 @@ fn spoil_bytes(bytes: &mut Vec<u8>, cause: usize) {
 
 fn spoil_desk(desk: &mut Desk, cause: usize) {
     match cause {
-        12 => desk.mem.push(0),
-        13 => desk.lists.reports.push(0),
-        14 => desk.state.steps = edges::MOST_STEPS,
-        15 => desk.a[3] = 2,
-        16 => desk.state.index = u32::MAX,
+        CAUSES_OF_DESK => desk.mem.push(0),
+        14 => desk.lists.reports.push(0),
+        15 => desk.state.steps = edges::MOST_STEPS,
+        16 => desk.a[3] = 2,
+        17 => desk.state.index = u32::MAX,
         _ => {}
     }
 }
@@ -199,4 +203,45 @@ pub fn two_refusals(choices: &mut Choices, prng: &mut Prng) -> Case {
     let run = Call::Run(Budget::Exactly(2));
     let begin = Call::Begin(cases::registers(prng, M));
     Case { desk, calls: vec![Call::Read, run, begin, run] }
+}
+
+/// The fields a, b and imm of a row: as they should be, some with register 15 or with a literal that changes
+/// nothing, and the last three of each so that they break the row.
+const SUM_FIELDS: [(u8, u8, u32); 8] = [
+    (1, 2, 0),
+    (1, 255, 0),
+    (1, 255, 7),
+    (FRAME, FRAME, 0),
+    (FRAME, 255, 0),
+    (16, 2, 0),
+    (1, 16, 0),
+    (1, 2, 1),
+];
+const ACCESS_FIELDS: [(u8, u8, u32); 8] = [
+    (1, 0, 0),
+    (1, 0, 5),
+    (0, 0, u32::MAX),
+    (FRAME, 0, 0),
+    (FRAME, 0, 1),
+    (16, 0, 0),
+    (1, 1, 0),
+    (1, 255, 5),
+];
+
+/// Register 15 or 14 as d of every op that has one, at every place, with other faults of the same
+/// instruction, and with one of each cause besides.
+pub fn frame_named(choices: &mut Choices, prng: &mut Prng) -> Case {
+    let op = choices.pick(&[&ARITHMETIC[..], &ACCESSES].concat());
+    let fields = if ACCESSES.contains(&op) { ACCESS_FIELDS } else { SUM_FIELDS };
+    let (a, b, imm) = choices.pick(&fields);
+    let a = if op == op::MOV && a <= FRAME { 0 } else { a };
+    let d = choices.pick(&[FRAME, FRAME - 1]);
+    let place = choices.below(3);
+    let cause = choices.below(CAUSES_OF_DESK + 1);
+    let mut image = small_image(prng, vec![Row::copy(1, Operand::Register(FRAME)); 3]);
+    image.rows[place] = Row { op, d, a, b, imm };
+    spoil_part(&mut image, cause);
+    let mut bytes = image.bytes();
+    spoil_bytes(&mut bytes, cause);
+    begun_from_bytes(prng, bytes, M, &[1, 1, 1])
 }

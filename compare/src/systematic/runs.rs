@@ -3,7 +3,7 @@
 use super::{begun, small_image, three_rows, Choices, M};
 use crate::cases::{self, Budget, Call, Case};
 use crate::edges;
-use crate::images::{op, Image, Operand, Row, MOST_MEMORY, MOST_ROWS};
+use crate::images::{op, Image, Operand, Row, FRAME, MOST_MEMORY, MOST_ROWS};
 use crate::prng::Prng;
 use crate::programs::{ACCESSES, ARITHMETIC, RANGES, STORES};
 use crate::types::State;
@@ -142,6 +142,24 @@ pub fn range(choices: &mut Choices, prng: &mut Prng) -> Case {
     Case { desk, calls: vec![Call::Read, Call::Run(Budget::Exactly(1))] }
 }
 
+/// Register 15, with any V, in every place that may name it.
+pub fn frame_used(choices: &mut Choices, prng: &mut Prng) -> Case {
+    let op = choices.pick(&[&ARITHMETIC[..], &ACCESSES, &[op::JNZ, op::EMIT]].concat());
+    let (first, second) = choices.pick(&[(FRAME, 2), (1, FRAME), (FRAME, FRAME)]);
+    let data = choices.pick(&[0, 5, M - 1, 0xFFFF_FFFF]);
+    let v = choices.pick(&[0, 1, 0x8000_0000, 0xFFFF_FFFF]);
+    let row = match op {
+        op::MOV => Row::copy(3, Operand::Register(second)),
+        op::JNZ => Row::jump(first, 1),
+        op::EMIT => Row::emit(first, 7),
+        _ if STORES.contains(&op) => Row::access(op, second, first, 0),
+        _ if ACCESSES.contains(&op) => Row::access(op, 3, first, 1),
+        _ => Row::sum(op, 3, first, Operand::Register(second)),
+    };
+    let known = [(1, 4, 0), (FRAME, data, v)];
+    one_step(prng, vec![row, Row::stop()], &known)
+}
+
 /// Buffers that do not fit the beginning, or the run after a beginning that they do fit.
 pub fn buffers(choices: &mut Choices, prng: &mut Prng) -> Case {
     let image = small_image(prng, three_rows());
@@ -165,7 +183,7 @@ fn filling(prng: &mut Prng, report_words: usize, output_words: usize) -> Case {
         Row::copy(3, Operand::Literal(150)),
         Row::access(op::LD32, 2, 1, 0xFFFF_0000),
         Row::emit(4, 3),
-        Row::access(op::LD8, 4, 15, 8),
+        Row::access(op::LD8, 4, FRAME, 8),
         Row::copy(1, Operand::Register(4)),
         Row::emit(3, 1),
         Row::sum(op::SUB, 3, 3, Operand::Literal(1)),
@@ -174,7 +192,7 @@ fn filling(prng: &mut Prng, report_words: usize, output_words: usize) -> Case {
     let image = small_image(prng, rows);
     let mut case = begun(prng, &image, &[0, 10, 2000, 1]);
     if let Call::Begin(registers) = &mut case.calls[1] {
-        registers[15] = 0;
+        registers[usize::from(FRAME)] = 0;
     }
     case.desk.lists = cases::lists(prng, report_words, output_words);
     case

@@ -33,7 +33,7 @@ fn varying_in(row: Row, operands: Operands) -> u32 {
 fn varying(op: u8, first: (u32, u32), second: (u32, u32)) -> u32 {
     let into = |d| varying_in(Row::sum(op, d, 1, Operand::Register(2)), operands(first, second));
     let varies = into(3);
-    assert_eq!([into(1), into(2), into(15)], [varies; 3]);
+    assert_eq!([into(1), into(2), into(14)], [varies; 3]);
     varies
 }
 

@@ -1,11 +1,12 @@
 //! The interpreter on every pinned test vector of document 01, its worked example, and edges worked out
-//! by hand from its text and that of document 02's requests L1, L4, L13 and L14.
+//! by hand from its text and that of document 02's requests L1, L4, L9, L13 and L14.
 
 mod accesses;
 mod alarms;
 mod bare;
 mod carry;
 mod equality;
+mod frame;
 mod half_words;
 mod kit;
 mod pinned;

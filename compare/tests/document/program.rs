@@ -44,6 +44,8 @@ fn program_writes_only_the_refusal() {
     assert_eq!(program(&image(4, &code, &[], &[])), "refused 5 at 3\n");
     let code = [(24, 0, 0, 0, 0), (21, 0, 0, 1, 0), (25, 0, 0, 0, 0)];
     assert_eq!(program(&image(4, &code, &[], &[])), "refused 5 at 1\n");
+    let code = [(15, 15, 0, 0, 0), (18, 0, 15, 0, 0), (22, 15, 15, 0, 0), (1, 15, 0, LIT, 0)];
+    assert_eq!(program(&image(4, &code, &[], &[])), "refused 5 at 2\n");
     assert_eq!(program(&[]), "refused 1 at 0\n");
 }
 

@@ -90,8 +90,8 @@ fn refusal_5_rows() {
         assert!(!allowed((op, 0, 0, 0, 0)));
     }
     for op in 1..=12 {
-        assert!(allowed((op, 15, 0, 15, 0)));
-        assert!(allowed((op, 15, 0, LIT, ONES)));
+        assert!(allowed((op, 14, 0, 15, 0)));
+        assert!(allowed((op, 14, 0, LIT, ONES)));
         assert!(allowed((op, 0, 0, LIT, 0)));
         assert!(!allowed((op, 16, 0, 0, 0)));
         assert!(!allowed((op, 0, 0, 16, 0)));
@@ -102,7 +102,7 @@ fn refusal_5_rows() {
     }
     for op in (13..=16).chain(21..=24) {
         assert!(allowed((op, 0, 0, 0, 0)));
-        assert!(allowed((op, 15, 15, 0, ONES)));
+        assert!(allowed((op, 14, 15, 0, ONES)));
         for wrong in [16, 128, 255] {
             assert!(!allowed((op, wrong, 0, 0, 0)));
             assert!(!allowed((op, 0, wrong, 0, 0)));
