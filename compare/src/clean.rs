@@ -7,7 +7,7 @@ mod packed;
 mod readings;
 
 use crate::edges;
-use crate::images::{op, Image, Operand, Region, Row, FILLED, MOST_ROWS, UNDEFINED};
+use crate::images::{op, Image, Operand, Region, Row, FILLED, FRAME, MOST_ROWS, UNDEFINED};
 use crate::prng::Prng;
 use crate::programs::{legal_row, ARITHMETIC, LOADS, STORES};
 
@@ -53,7 +53,7 @@ impl Draft<'_> {
     }
 
     fn firm(&mut self) -> u8 {
-        self.prng.pick(&[FIRM[0], FIRM[1], FIRM[2], FIRM[3], 15])
+        self.prng.pick(&[FIRM[0], FIRM[1], FIRM[2], FIRM[3], FRAME])
     }
 
     /// One of the registers that must stay firm and may be written.

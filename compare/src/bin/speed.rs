@@ -12,7 +12,7 @@ use compare::checker;
 use compare::images::op::{
     ADD, AND, EQ, LD32, LD8, LTU, MUL, OR, SAR, SHL, SHR, ST32, ST8, SUB, XOR,
 };
-use compare::images::{Image, Operand, Region, Row, FILLED, MOST_ROWS, UNDEFINED};
+use compare::images::{Image, Operand, Region, Row, FILLED, FRAME, MOST_ROWS, UNDEFINED};
 use compare::interpreter;
 use compare::prng::Prng;
 use compare::types::{Buffers, Engine, Lists, Ran};
@@ -130,7 +130,7 @@ struct Desk {
 
 fn registers(m: usize) -> [u32; 16] {
     let mut registers = [0; 16];
-    registers[15] = m as u32;
+    registers[usize::from(FRAME)] = m as u32;
     registers
 }
 

@@ -5,7 +5,7 @@ use mathlib.Core.List.{List, [], _∷_}
 use Rattle.machine.specs.Machine.{World, programOf}
 use Rattle.machine.specs.Lists.{outputPlaces}
 use Rattle.machine.specs.Bare.{bareBegun}
-use Rattle.machine.specs.Frame.{frameOf, FrameKept}
+use Rattle.machine.specs.Frame.{FrameKept, FrameAsGiven}
 use Rattle.machine.specs.Calls.{Began as BeginAnswer, Ran as RunAnswer, beginAnswer, runAnswer}
 use Rattle.soundness.specs.Series.{startedWith, checkerAfter, acceptedBudgets, bareAfter}
 use Rattle.soundness.specs.Claim.{Claim, Demand3}
@@ -53,8 +53,8 @@ module _ (calls : Interface) (answers : Answers calls) where
         from-beginning = λ s b regs mem memV memA h call budgets h′ made.
             let begun = answers .begins s regs mem memV memA 0 h call in
             let started = ap (λ (w : World). checkerAfter s w budgets) (begun .1) in
-            let defined = frame-kept .from-beginning s b regs mem memV memA (begun .0) (calls .world h .reportList) (calls .world h .outputList) budgets in
-            subst (λ (w : World). (frameOf (w .parts .regs) ≡ frameOf regs) × (frameOf (w .parts .regsV) ≡ 0)) (sym (calls-after s h budgets h′ made ∙ started)) defined;
+            let given = frame-kept .from-beginning s b regs mem memV memA (begun .0) (calls .world h .reportList) (calls .world h .outputList) budgets in
+            subst (FrameAsGiven regs) (sym (calls-after s h budgets h′ made ∙ started)) given;
       }
 
 -- ---- the calls of the crate `checker`

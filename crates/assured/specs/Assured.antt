@@ -12,7 +12,7 @@ use Rattle.machine.specs.Machine.{World, programOf}
 use Rattle.machine.specs.Beginning.{Registers, Memory}
 use Rattle.machine.specs.Lists.{outputPlaces}
 use Rattle.machine.specs.Bare.{bareBegun}
-use Rattle.machine.specs.Frame.{frameOf, FrameKept}
+use Rattle.machine.specs.Frame.{FrameKept, FrameAsGiven}
 use Rattle.soundness.specs.Series.{acceptedBudgets, bareAfter}
 use Rattle.soundness.specs.Claim.{Claim}
 
@@ -60,4 +60,4 @@ pub record FrameAssured (calls : Interface) : Type 0 where
   -- after an accepted beginning and any such runs it has the value that was handed in, and is defined
   pub from-beginning : (s : List ℕ) → Bytes s → (regs mem memV memA : List ℕ) (h : Held (calls .State)) → calls .Begins s regs mem memV memA 0 h
       → (budgets : List ℕ) (h′ : Held (calls .State)) → RunCalls calls s h budgets h′
-      → (frameOf (calls .world h′ .parts .regs) ≡ frameOf regs) × (frameOf (calls .world h′ .parts .regsV) ≡ 0)
+      → FrameAsGiven regs (calls .world h′)

@@ -20,3 +20,8 @@ ShadowKept v v′ reports reports′ = (v′ ≡ v) ⊎ ((v′ ≡ 0) × (report
 pub record FrameKept (before after : World) : Type 0 where
   pub value : frameOf (after .parts .regs) ≡ frameOf (before .parts .regs)
   pub shadow : ShadowKept (frameOf (before .parts .regsV)) (frameOf (after .parts .regsV)) (before .counts .reports) (after .counts .reports)
+
+-- it holds what was handed in with these registers, and is defined
+pub record FrameAsGiven (regs : List ℕ) (w : World) : Type 0 where
+  pub value : frameOf (w .parts .regs) ≡ frameOf regs
+  pub defined : frameOf (w .parts .regsV) ≡ 0

@@ -42,6 +42,6 @@ frame-kept =
       from-beginning = λ s b regs mem memV memA e reports outputs budgets.
           let began = begin-accepted s regs mem memV memA e .answer in
           let k = series-later s b (startedWith reports outputs (beginAnswer s regs mem memV memA)) budgets .kept in
-          (k .value ∙ ap (λ (r : Began). frameOf (r .parts .regs)) began, still-defined (k .shadow) (ap (λ (r : Began). frameOf (r .parts .regsV)) began));
+          record { value = k .value ∙ ap (λ (r : Began). frameOf (r .parts .regs)) began; defined = still-defined (k .shadow) (ap (λ (r : Began). frameOf (r .parts .regsV)) began) };
       bare = λ s b e. bare-series s b (accepted-image s e);
     }
