@@ -44,7 +44,7 @@ named! {
     WRONG_MAGIC = 2, "the image's first four bytes are not 54 55 4E 31";
     OUT_OF_LIMITS = 3, "M, N, R or D is out of its limits";
     WRONG_LAYOUT = 4, "an offset or the image's length is not as computed from N, R and D";
-    BAD_INSTRUCTION = 5, "an instruction breaks its row of the table, has none, or writes register 15";
+    BAD_INSTRUCTION = 5, "an instruction breaks its row, has none, or writes register 15";
     BAD_REGION = 6, "a region breaks its rules";
     WRONG_SUM = 7, "D is not the sum of the filled regions' lengths";
     WRONG_SIZE = 8, "a buffer is not of M bytes, or a list not of whole entries or too long";

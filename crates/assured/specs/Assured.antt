@@ -5,14 +5,13 @@
 use Prim.Native.Nat.{ℕ}
 use mathlib.Core.Path.{_≡_}
 use mathlib.Core.List.{List, [], _∷_}
-use lib.ListN.{getD}
 use Rattle.image.specs.Words.{Bytes}
-use Rattle.image.specs.Format.{frameRegister, fieldM}
+use Rattle.image.specs.Format.{fieldM}
 use Rattle.machine.specs.Machine.{World, programOf}
 use Rattle.machine.specs.Beginning.{Registers, Memory}
 use Rattle.machine.specs.Lists.{outputPlaces}
 use Rattle.machine.specs.Bare.{bareBegun}
-use Rattle.machine.specs.Frame.{FrameKept, FrameAsGiven}
+use Rattle.machine.specs.Frame.{frameOf, FrameKept, FrameAsGiven}
 use Rattle.soundness.specs.Series.{acceptedBudgets, bareAfter}
 use Rattle.soundness.specs.Claim.{Claim}
 
@@ -47,7 +46,7 @@ Assured calls =
     → (regs mem memV memA : List ℕ) → Registers regs → Bytes mem
     → (h : Held (calls .State)) → calls .Begins s regs mem memV memA 0 h
     → (regs′ mem′ : List ℕ) → Registers regs′ → Memory (fieldM s) mem′
-    → getD regs′ frameRegister 0 ≡ getD regs frameRegister 0
+    → frameOf regs′ ≡ frameOf regs
     → (budgets : List ℕ) (h′ : Held (calls .State)) → RunCalls calls s h budgets h′
     → let places = outputPlaces (calls .world h .outputList) in
     Claim s places (calls .world h′) (bareAfter (programOf s) places (bareBegun s regs′ mem′) (acceptedBudgets s (calls .world h) budgets))

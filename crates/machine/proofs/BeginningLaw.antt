@@ -18,6 +18,7 @@ use Rattle.machine.specs.Ranges.{written, filled}
 use Rattle.machine.specs.Beginning.{Registers, Memory, isFilled, layData, layV, layA, laid, regionsOf, dataOf, begunMemory, begunV, begunA, begunRegsV, begunParts}
 use Rattle.machine.specs.Lists.{outputPlaces, outputsIn}
 use Rattle.machine.specs.Bare.{bareBegun}
+use Rattle.machine.specs.Frame.{frameOf}
 use Rattle.machine.proofs.Relation.{Beside, WordAlike, ByteAlike, InStep, beside-shadow, beside-all, byte-undefined, mark-alike, data-alike}
 
 -- ---- the memory
@@ -46,16 +47,16 @@ module _ (regions held : List ℕ) (b : Bytes held) where
 
 -- ---- the registers
 -- registers are undefined, but for the one that is alike
-registers-alike : {regs regs′ : List ℕ} → Registers regs → Registers regs′ → getD regs frameRegister 0 ≡ getD regs′ frameRegister 0
+registers-alike : {regs regs′ : List ℕ} → Registers regs → Registers regs′ → frameOf regs ≡ frameOf regs′
     → Beside WordAlike begunRegsV begunRegsV regs regs′
 registers-alike {regs} {regs′} h h′ frame =
     beside-shadow
     (beside-all {P = WordAlike} registers allOnes allOnes regs regs′ (h .sixteen) (h′ .sixteen) (λ i. alike-undefined 32 (h .words i) (h′ .words i)))
     frameRegister 0 0
-    (subst (λ (y : ℕ). Alike 32 0 (getD regs frameRegister 0) y) frame (alike-self (omega arith) (h .words frameRegister)))
+    (subst (λ (y : ℕ). Alike 32 0 (frameOf regs) y) frame (alike-self (omega arith) (h .words frameRegister)))
 
 pub begins-in-step : (s regs mem regs′ mem′ reports outputs : List ℕ) → Bytes s → Registers regs → Registers regs′
-    → Memory (fieldM s) mem → Memory (fieldM s) mem′ → getD regs frameRegister 0 ≡ getD regs′ frameRegister 0
+    → Memory (fieldM s) mem → Memory (fieldM s) mem′ → frameOf regs ≡ frameOf regs′
     → InStep (outputPlaces outputs) (record { parts = begunParts s regs mem; counts = zeroCounts; reportList = reports; outputList = outputs }) (bareBegun s regs′ mem′)
 unfolding begunParts bareBegun begunMemory begunV begunA outputsIn
 begins-in-step s regs mem regs′ mem′ reports outputs b h h′ held held′ frame =

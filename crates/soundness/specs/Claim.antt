@@ -7,7 +7,7 @@ use mathlib.Core.List.{List}
 use lib.ListN.{length, getD}
 use Rattle.rules.specs.Agreement.{Agree}
 use Rattle.image.specs.Words.{Bytes}
-use Rattle.image.specs.Format.{frameRegister, fieldM}
+use Rattle.image.specs.Format.{fieldM}
 use Rattle.machine.specs.Machine.{World, programOf}
 use Rattle.machine.specs.Beginning.{Registers, Memory}
 use Rattle.machine.specs.Lists.{outputPlaces, outputsIn}
@@ -15,6 +15,7 @@ use Rattle.machine.specs.Runs.{trapped}
 use Rattle.machine.specs.Checker.{runOf}
 use Rattle.machine.specs.Bare.{Bare, bareBegun, bareRun}
 use Rattle.machine.specs.Calls.{beginAnswer, runAnswer}
+use Rattle.machine.specs.Frame.{frameOf}
 use Rattle.soundness.specs.Series.{startedWith, checkerAfter, acceptedBudgets, bareAfter}
 
 -- the checker's machine and the bare one, at one moment
@@ -54,7 +55,7 @@ Demand3 =
     → beginAnswer s regs mem memV memA .refusal .number ≡ 0
     -- the bare machine's "register values (15 as on the bench) and M memory bytes of its own"
     → (regs′ mem′ : List ℕ) → Registers regs′ → Memory (fieldM s) mem′
-    → getD regs′ frameRegister 0 ≡ getD regs frameRegister 0
+    → frameOf regs′ ≡ frameOf regs
     -- "any report and output list", "and then any number of runs, none too, accepted or refused"
     → (reports outputs budgets : List ℕ)
     → let w = startedWith reports outputs (beginAnswer s regs mem memV memA) in

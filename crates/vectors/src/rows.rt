@@ -125,7 +125,13 @@ pub fn decoded(x: Decoded) {
     text(b"\n");
 }
 
+// How many rows the first table has, the first two, and all three. There are several, as a check takes
+// by the square of a table's length.
 const FIRST: usize = 60;
+
+const SECOND: usize = 76;
+
+const CASES: usize = 98;
 
 // op, d, a, b and imm.
 struct Fields(u8, u8, u8, u8, u32);
@@ -195,10 +201,7 @@ const TABLE: [Fields; FIRST] = [
     Fields(20, 0, 0, 1, 0x0001_0000),
 ];
 
-const SECOND: usize = 76;
-
-// The same of request L1's rows, and ops with no row. In a table of their own, as a check takes by the
-// square of a table's length.
+// The same of request L1's rows, and ops with no row.
 const ADDED: [Fields; 16] = [
     Fields(21, 14, 0, 0, 0xffff_ffff),
     Fields(22, 0, 15, 0, 0),
@@ -217,8 +220,6 @@ const ADDED: [Fields; 16] = [
     Fields(128, 0, 0, 0, 0),
     Fields(255, 0, 0, 0, 0),
 ];
-
-const CASES: usize = 98;
 
 // Register 15 as d (request L9): of each op that writes a register, of MOV and ADD also from it; and of
 // the stores, whose source it may be.
