@@ -4,6 +4,7 @@
  *   uviktalik_read   reads an image: its sizes, and where its code lies
  *   uviktalik_begin  sets out memory, V bits, A bits and a state as the image says
  *   uviktalik_run    runs the program on from a state and reports each use of an undefined bit
+ *   uviktalik_write  writes an image: from memory's size, instructions, regions and data
  *
  * `rt staticlib capi` proves and builds them into target/staticlib/libcapi.a. They need no other
  * library but the C library's memcpy and memset, allocate nothing and keep nothing between calls,
@@ -21,7 +22,8 @@
  * WHAT IS ASKED, which no call can check, and without which nothing is promised:
  *   - A pointer refers to as many elements as the size after it says, an array parameter to as many
  *     as are written there, any other pointer to one. Sizes count elements: BYTES of image, mem,
- *     vbits and abits, WORDS of reports and outputs (not entries, and not bytes).
+ *     vbits, abits, data and out, WORDS of reports, outputs, instructions and regions (not entries,
+ *     and not bytes).
  *   - What a call writes overlaps nothing else that it is lent: no two buffers or lists share
  *     memory, and regs is no part of the state that beginning writes.
  *   - No pointer is null, not even beside a size of 0. As the library is built now, NULL beside a
@@ -56,6 +58,7 @@ extern "C" {
 #define uviktalik_read uviktalik_read_1
 #define uviktalik_begin uviktalik_begin_1
 #define uviktalik_run uviktalik_run_1
+#define uviktalik_write uviktalik_write_1
 
 /* Limits. M, N, R and D are an image's sizes. */
 enum {
@@ -112,6 +115,22 @@ enum {
     UVIKTALIK_OUTPUT_WORDS = 2 /* how many words there are */
 };
 
+/*
+ * The words of an instruction and of a region, as writing takes them. The first word of an
+ * instruction has its bytes op, d, a, b from the lowest on: op + (d << 8) + (a << 16) + (b << 24).
+ */
+enum {
+    UVIKTALIK_INSTRUCTION_FIELDS = 0, /* op, d, a, b */
+    UVIKTALIK_INSTRUCTION_IMM = 1,
+    UVIKTALIK_INSTRUCTION_WORDS = 2 /* how many words there are */
+};
+enum {
+    UVIKTALIK_REGION_START = 0,
+    UVIKTALIK_REGION_LENGTH = 1,
+    UVIKTALIK_REGION_KIND = 2, /* 1: filled from the data; 2: addressable but undefined */
+    UVIKTALIK_REGION_WORDS = 3 /* how many words there are */
+};
+
 /* The kinds of report: what was used, and what the detail is. */
 enum {
     UVIKTALIK_KIND_UNDEFINED_ADDRESS = 1,   /* an address, by a load or store; its V word */
@@ -138,7 +157,8 @@ enum {
     UVIKTALIK_ACCEPTED = 0,
     UVIKTALIK_REFUSED_TOO_SHORT = 1,       /* the image has under 32 bytes */
     UVIKTALIK_REFUSED_WRONG_MAGIC = 2,     /* its first four bytes are not 54 55 4E 31 */
-    UVIKTALIK_REFUSED_OUT_OF_LIMITS = 3,   /* M, N, R or D is out of its limits */
+    UVIKTALIK_REFUSED_OUT_OF_LIMITS = 3,   /* M, N, R or D is out of its limits; writing: or a
+                                              list ends in a part of an entry */
     UVIKTALIK_REFUSED_WRONG_LAYOUT = 4,    /* an offset or the length is not as computed */
     UVIKTALIK_REFUSED_BAD_INSTRUCTION = 5, /* an instruction breaks its row, has none, or
                                               writes register 15 */
@@ -148,8 +168,9 @@ enum {
                                               of whole entries, or above its limit */
     UVIKTALIK_REFUSED_TOO_MANY_STEPS = 9,  /* steps taken plus budget above UVIKTALIK_MAX_STEPS */
     UVIKTALIK_REFUSED_WRONG_MARK = 10,     /* an A byte above 1 */
-    UVIKTALIK_REFUSED_WRONG_COUNT = 11     /* index above N, outputs above their places, or
+    UVIKTALIK_REFUSED_WRONG_COUNT = 11,    /* index above N, outputs above their places, or
                                               reports above twice the steps */
+    UVIKTALIK_REFUSED_NO_ROOM = 12         /* out is shorter than the image */
 };
 
 /* UVIKTALIK_VERSION of the library that is linked or loaded. This name has no version and stays. */
@@ -211,6 +232,23 @@ uint8_t uviktalik_run(const uint8_t *image, size_t image_size,
                       uint8_t *vbits, size_t vbits_size, uint8_t *abits, size_t abits_size,
                       uint32_t *reports, size_t reports_size, uint32_t *outputs,
                       size_t outputs_size, uint32_t budget, uint8_t *reason, size_t *fault);
+
+/*
+ * Writes the image of M bytes of memory, N instructions of two words, R regions of three words and
+ * the D bytes that fill regions, in the regions' order. Refusals 3, 5, 6 and 7 as reading that image
+ * would give them, then 12. The lists' sizes are words: 2 N and 3 R.
+ *            accepted                                     refused
+ *   out      the image; bytes past it as they were        as it was
+ *   *size    the image's bytes: 32 + 8 N + 12 R + D       0
+ *   *fault   0                                            the index at fault, or 0
+ * Reading accepts what was written (the first *size bytes of out, not all of it if there is more),
+ * and finds in it what went in. An accepted image that is taken apart and written again has the
+ * same bytes.
+ */
+uint8_t uviktalik_write(uint32_t m, const uint32_t *instructions, size_t instructions_size,
+                        const uint32_t *regions, size_t regions_size, const uint8_t *data,
+                        size_t data_size, uint8_t *out, size_t out_size, size_t *size,
+                        size_t *fault);
 
 #ifdef __cplusplus
 }

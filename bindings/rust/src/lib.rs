@@ -75,6 +75,19 @@ pub struct Header<'a> {
     pub code: &'a [u8],
 }
 
+/// What an image is written from.
+#[derive(Clone, Copy, Debug, PartialEq, Eq)]
+pub struct Fields<'a> {
+    /// The bytes of memory.
+    pub m: u32,
+    /// The instructions, [`INSTRUCTION_WORDS`](numbers::INSTRUCTION_WORDS) each.
+    pub instructions: &'a [u32],
+    /// The regions of memory, [`REGION_WORDS`](numbers::REGION_WORDS) each.
+    pub regions: &'a [u32],
+    /// The bytes that fill regions, in the regions' order.
+    pub data: &'a [u8],
+}
+
 fn answer<T>(number: u8, index: usize, accepted: T) -> Result<T, Refusal> {
     match number {
         ACCEPTED => Ok(accepted),
@@ -122,4 +135,12 @@ pub fn run(
     let (mut reason, mut fault) = (REASON_NONE, 0);
     let number = raw::run(image, &mut state.0, buffers, lists, budget, &mut reason, &mut fault);
     answer(number, fault, StopReason(reason))
+}
+
+/// Writes the image of these fields to the first bytes of `out`, and says how many they are.
+/// Refusals 3, 5, 6, 7 and 12.
+pub fn write(fields: &Fields, out: &mut [u8]) -> Result<usize, Refusal> {
+    let (mut size, mut fault) = (0, 0);
+    let number = raw::write(fields, out, &mut size, &mut fault);
+    answer(number, fault, size)
 }

@@ -85,6 +85,21 @@ numbers! {
     /// The words of an output.
     OUTPUT_WORDS: usize = 2;
 
+    /// The place, in an instruction, of the word with its bytes op, d, a and b.
+    INSTRUCTION_FIELDS: usize = 0;
+    /// The place of imm.
+    INSTRUCTION_IMM: usize = 1;
+    /// The words of an instruction.
+    INSTRUCTION_WORDS: usize = 2;
+    /// The place of a region's start.
+    REGION_START: usize = 0;
+    /// The place of its length.
+    REGION_LENGTH: usize = 1;
+    /// The place of its kind.
+    REGION_KIND: usize = 2;
+    /// The words of a region.
+    REGION_WORDS: usize = 3;
+
     /// What a call returns that is not refused.
     ACCEPTED: u8 = 0;
     /// The stop reason of a refused run.

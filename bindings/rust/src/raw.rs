@@ -4,7 +4,7 @@
 
 use crate::numbers::{HEADER_WORDS, REGISTERS, STATE_WORDS};
 use crate::sys;
-use crate::{Buffers, Lists};
+use crate::{Buffers, Fields, Lists};
 
 // Rust sees to what the calls ask (the header, WHAT IS ASKED): a reference is not null, a slice has
 // as many elements as its size says, and what is lent as `&mut` overlaps nothing else. Stack, as for
@@ -81,6 +81,28 @@ pub fn run(
             outputs.len(),
             budget,
             reason,
+            fault,
+        )
+    }
+}
+
+/// Writes an image.
+#[inline]
+pub fn write(fields: &Fields, out: &mut [u8], size: &mut usize, fault: &mut usize) -> u8 {
+    let Fields { m, instructions, regions, data } = *fields;
+    // SAFETY: as above.
+    unsafe {
+        sys::uviktalik_write(
+            m,
+            instructions.as_ptr(),
+            instructions.len(),
+            regions.as_ptr(),
+            regions.len(),
+            data.as_ptr(),
+            data.len(),
+            out.as_mut_ptr(),
+            out.len(),
+            size,
             fault,
         )
     }

@@ -49,4 +49,19 @@ extern "C" {
         reason: *mut u8,
         fault: *mut usize,
     ) -> u8;
+
+    #[link_name = "uviktalik_write_1"]
+    pub fn uviktalik_write(
+        m: u32,
+        instructions: *const u32,
+        instructions_size: usize,
+        regions: *const u32,
+        regions_size: usize,
+        data: *const u8,
+        data_size: usize,
+        out: *mut u8,
+        out_size: usize,
+        size: *mut usize,
+        fault: *mut usize,
+    ) -> u8;
 }

@@ -1,10 +1,11 @@
--- What the calls promise, for every input: what they answer and leave is what the definitions of `image` and `machine` give.
+-- What the calls promise, for every input: what they answer and leave is what the definitions of `image`, `machine` and `writer` give.
 use Prim.Native.Nat.{ℕ}
 use mathlib.Core.Path.{_≡_}
 use mathlib.Core.List.{List}
 use Rattle.image.specs.Refusals.{headerOf}
 use Rattle.machine.specs.Calls.{beginAnswer, runAnswer}
-use Rattle.capi.specs.Words.{worldIn, headerIn, beganIn, ranIn, codeRange}
+use Rattle.writer.specs.Writing.{writeAnswer}
+use Rattle.capi.specs.Words.{worldIn, headerIn, beganIn, ranIn, writtenIn, codeRange}
 
 abbrev pub ReadPromise : (image : List ℕ) (number : ℕ) (header code : List ℕ) (fault : ℕ) → Type 0
 ReadPromise image number header code fault = (headerIn number fault header ≡ headerOf image) × (code ≡ codeRange (headerOf image))
@@ -16,3 +17,6 @@ BeginPromise image regs mem memV memA number mem′ memV′ memA′ state′ fau
 abbrev pub RunPromise : (image state mem memV memA reports outputs : List ℕ) (budget number : ℕ) (state′ mem′ memV′ memA′ reports′ outputs′ : List ℕ) (reason fault : ℕ) → Type 0
 RunPromise image state mem memV memA reports outputs budget number state′ mem′ memV′ memA′ reports′ outputs′ reason fault =
     ranIn number fault reason state′ mem′ memV′ memA′ reports′ outputs′ ≡ runAnswer image (worldIn state mem memV memA reports outputs) budget
+
+abbrev pub WritePromise : ℕ → (instructions regions held out : List ℕ) (number : ℕ) (out′ : List ℕ) (size fault : ℕ) → Type 0
+WritePromise m instructions regions held out number out′ size fault = writtenIn number fault size out′ ≡ writeAnswer m instructions regions held out

@@ -10,6 +10,7 @@ use Rattle.image.specs.Refusals.{refused}
 use Rattle.image.specs.declared.Header.{Header}
 use Rattle.machine.specs.Machine.{Parts, parts, Counts, World}
 use Rattle.machine.specs.Calls.{Began, Ran}
+use Rattle.writer.specs.Writing.{Written}
 
 -- which parameters, words of a state, words of a list's entry and limits these are: the number at the end of the calls' names
 abbrev pub version : ℕ
@@ -43,6 +44,9 @@ beganIn number fault state mem memV memA = record { refusal = refused number fau
 abbrev pub ranIn : (number fault reason : ℕ) (state mem memV memA reports outputs : List ℕ) → Ran
 ranIn number fault reason state mem memV memA reports outputs =
     record { refusal = refused number fault; reason = reason; world = worldIn state mem memV memA reports outputs }
+
+abbrev pub writtenIn : (number fault size : ℕ) (out : List ℕ) → Written
+writtenIn number fault size out = record { refusal = refused number fault; size = size; out = out }
 
 -- where the code begins, and how many bytes it has: zeros when refused
 abbrev pub codeStart : ℕ → ℕ

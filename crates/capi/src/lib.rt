@@ -1,7 +1,7 @@
-// The checker for programs in other languages: reading, beginning and running by C's calling
+// The checker for programs in other languages: reading, beginning, running and writing by C's calling
 // convention, on numbers and lent buffers. Nothing is asked of the caller but what the parameters'
-// types say (include/uviktalik.h), and each call promises what the call of `image` or `checker` of
-// its name does, for every input. The functions' names are the symbols that a program is linked by;
+// types say (include/uviktalik.h), and each call promises what the call of `image`, `checker` or
+// `writer` of its name does, for every input. The functions' names are the symbols that a program is linked by;
 // the version ends them, so that a program for another version does not link.
 use checker::Counts;
 use checker::State;
@@ -15,7 +15,7 @@ ghost use Rattle.image.specs.Format.{registers as registerCount, partOf};
 ghost use Rattle.machine.specs.Ranges.{written};
 ghost use Rattle.capi.specs.Words.{version, stateSize, codeStart};
 ghost use Rattle.capi.specs.Pieces.{Holds};
-ghost use Rattle.capi.specs.Promises.{ReadPromise, BeginPromise, RunPromise};
+ghost use Rattle.capi.specs.Promises.{ReadPromise, BeginPromise, RunPromise, WritePromise};
 
 // The number at the end of the calls' names. It goes up when their parameters change, or the words of
 // a state, or those of a list's entry, or a limit.
@@ -181,6 +181,27 @@ pub extern "C" fn uviktalik_run_1(
     let end = ran.state;
     *state = words_of(end);
     *reason = ran.reason;
+    *fault = refusal.index;
+    refusal.number
+}
+
+// Writes an image, as `writer::write` does: how many bytes it has to size, 0 when refused, the index at
+// fault to fault. Returns 0 or the refusal's number.
+#[no_mangle]
+pub extern "C" fn uviktalik_write_1(
+    m: u32,
+    instructions: &[u32],
+    regions: &[u32],
+    data: &[u8],
+    out: &mut [u8],
+    size: &mut usize,
+    fault: &mut usize,
+) -> u8
+    ensures { λ r. ⌜ WritePromise m (now (instructions .entry)) (now (regions .entry)) (now («data» .entry)) (now (out .entry)) r (now (out .exit)) (now (size .exit)) (now (fault .exit)) ⌝ }
+{
+    let wrote = writer::write(m, instructions, regions, data, out);
+    let refusal = wrote.refusal;
+    *size = wrote.size;
     *fault = refusal.index;
     refusal.number
 }

@@ -24,7 +24,7 @@ use Rattle.image.proofs.Tests.{apart, both, all-four, either}
 use Rattle.image.proofs.Faults.{passed, both-passed, no-fault, all-pass}
 
 -- ---- the tests, as facts
-limits-hold : (m n r d : ℕ) → limitsOk m n r d ≡ true → Limits m n r d
+pub limits-hold : (m n r d : ℕ) → limitsOk m n r d ≡ true → Limits m n r d
 limits-hold m n r d h =
     let e6 = both _ (leb d mostD) h in
     let e5 = both _ (leb r mostR) (e6 .0) in
@@ -38,7 +38,7 @@ limits-hold m n r d h =
       held = leb-true _ _ (e6 .1);
     }
 
-limits-pass : {m n r d : ℕ} → Limits m n r d → limitsOk m n r d ≡ true
+pub limits-pass : {m n r d : ℕ} → Limits m n r d → limitsOk m n r d ≡ true
 limits-pass l =
     simp (le-leb _ _ (l .some-memory), le-leb _ _ (l .memory), le-leb _ _ (l .some-code), le-leb _ _ (l .code), le-leb _ _ (l .regions), le-leb _ _ (l .held))
 

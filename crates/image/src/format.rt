@@ -1,6 +1,6 @@
 // The fixed numbers of an image (document 01, What a card holds), and its parts.
 ghost use mathlib.Core.Path.{_≡_};
-ghost use Rattle.image.specs.Format.{regionsAt, dataAt, partOf, codePart, regionPart, dataPart};
+ghost use Rattle.image.specs.Format.{limitsOk, regionsAt, dataAt, partOf, codePart, regionPart, dataPart};
 
 pub const MAGIC: [u8; 4] = *b"TUN1";
 
@@ -55,6 +55,18 @@ pub const LARGEST: usize = HEADER
     + INSTRUCTION * (MOST_N as usize)
     + REGION * (MOST_R as usize)
     + MOST_D as usize;
+
+// Whether M, N, R and D keep their limits: of any numbers, as a caller may have counted them.
+pub fn limits_ok(m: usize, n: usize, r: usize, d: usize) -> bool
+    ensures { λ t. ⌜ t ≡ limitsOk m n r d ⌝ }
+{
+    (1 <= m)
+        & (m <= MOST_M as usize)
+        & (1 <= n)
+        & (n <= MOST_N as usize)
+        & (r <= MOST_R as usize)
+        & (d <= MOST_D as usize)
+}
 
 // Where the regions have to begin, after n instructions.
 pub fn regions_at(n: u32) -> usize

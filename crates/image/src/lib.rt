@@ -13,8 +13,13 @@ mod words; // words.rt: words of a slice
 
 pub use reader::code;
 pub use reader::read;
+pub use reader::refuse;
+pub use regions::end_of;
+pub use regions::filled_of;
 pub use regions::region_at;
+pub use regions::region_keeps;
 pub use rows::decode;
+pub use rows::keeps_row;
 
 // The second operand, B.
 pub enum Operand {

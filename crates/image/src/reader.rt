@@ -12,10 +12,11 @@ use super::words;
 ghost use mathlib.Core.Path.{_≡_};
 ghost use Prim.Native.Nat.{_≤_};
 ghost use lib.ListN.{length};
-ghost use Rattle.image.specs.Format.{headerSize, magicOk, limitsOk, layoutOk};
+ghost use Rattle.image.specs.Format.{headerSize, magicOk, layoutOk};
 ghost use Rattle.image.specs.Refusals.{refused, codeRefusal, regionRefusal, contentRefusal, refusalOf, headerOf, codeOf};
 
-fn refuse(number: u8, index: usize) -> Refusal
+// A refusal with its number and index.
+pub fn refuse(number: u8, index: usize) -> Refusal
     ensures { λ r. ⌜ r ≡ refused number index ⌝ }
 {
     Refusal {
@@ -32,17 +33,6 @@ fn magic_ok(image: &[u8]) -> bool
         & (image[1] == MAGIC[1])
         & (image[2] == MAGIC[2])
         & (image[3] == MAGIC[3])
-}
-
-fn limits_ok(m: u32, n: u32, r: u32, d: u32) -> bool
-    ensures { λ t. ⌜ t ≡ limitsOk m n r d ⌝ }
-{
-    (1 <= m)
-        & (m <= format::MOST_M)
-        & (1 <= n)
-        & (n <= format::MOST_N)
-        & (r <= format::MOST_R)
-        & (d <= format::MOST_D)
 }
 
 // Whether the offsets and the length are as computed.
@@ -119,7 +109,7 @@ fn check(image: &[u8]) -> Refusal
     let n = words::nth(image, format::WORD_N);
     let r = words::nth(image, format::WORD_R);
     let d = words::nth(image, format::WORD_D);
-    if !limits_ok(m, n, r, d) {
+    if !format::limits_ok(m as usize, n as usize, r as usize, d as usize) {
         return refuse(refusals::OUT_OF_LIMITS, 0);
     }
     if !layout_ok(image, n, r, d) {

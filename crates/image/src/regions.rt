@@ -6,7 +6,7 @@ use super::format::UNDEFINED;
 use super::words;
 ghost use mathlib.Core.Path.{_≡_};
 ghost use Prim.Native.Nat.{_<_, _^_};
-ghost use Rattle.image.specs.Regions.{regionAt, endOf, endBefore, regionOk, filledOf, filledSum};
+ghost use Rattle.image.specs.Regions.{regionAt, endOf, endBefore, regionKeeps, regionOk, filledOf, filledSum};
 
 // Region number i of a list of regions; zeros past the last.
 pub fn region_at(regions: &[u8], i: usize) -> Region
@@ -27,7 +27,8 @@ pub fn region_at(regions: &[u8], i: usize) -> Region
     }
 }
 
-fn end_of(found: Region) -> usize
+// Where a region ends.
+pub fn end_of(found: Region) -> usize
     ensures { λ r. ⌜ r ≡ endOf found ⌝ }
 {
     found.start as usize + found.size as usize
@@ -43,20 +44,27 @@ fn end_before(regions: &[u8], i: usize) -> usize
     end_of(region_at(regions, i - 1))
 }
 
-// Whether region number i keeps the rules.
-pub fn region_ok(regions: &[u8], m: u32, i: usize) -> bool
-    ensures { λ r. ⌜ r ≡ regionOk (now (regions .entry)) m i ⌝ }
+// Whether a region keeps the rules, if the one before it ends there.
+pub fn region_keeps(found: Region, before: usize, m: u32) -> bool
+    ensures { λ r. ⌜ r ≡ regionKeeps found before m ⌝ }
 {
-    let found = region_at(regions, i);
-    let before = end_before(regions, i);
     (1 <= found.size)
         & (before <= found.start as usize)
         & (end_of(found) <= m as usize)
         & ((found.kind == FILLED) | (found.kind == UNDEFINED))
 }
 
+// Whether region number i keeps the rules.
+pub fn region_ok(regions: &[u8], m: u32, i: usize) -> bool
+    ensures { λ r. ⌜ r ≡ regionOk (now (regions .entry)) m i ⌝ }
+{
+    let found = region_at(regions, i);
+    let before = end_before(regions, i);
+    region_keeps(found, before, m)
+}
+
 // How many bytes of data belong to a region.
-fn filled_of(found: Region) -> usize
+pub fn filled_of(found: Region) -> usize
     ensures { λ r. ⌜ (r ≡ filledOf found) × (r < 2 ^ 32) ⌝ }
 {
     let size = found.size as usize;

@@ -10,6 +10,5 @@ region-ok-spec =
     (tie.spec
     (λ c κs. search needs)
     (λ c κs. search needs)
-    (λ c. search needs)
     (λ c κs. search needs)
-    (λ c. rw (c .before .before .end-of .ensures, c .before .before .before .before .before .end-before .ensures, c .before .before .before .before .before .before .region-at .ensures)))
+    (λ c. rw (c .region-keeps .ensures, c .before .end-before .ensures, c .before .before .region-at .ensures)))

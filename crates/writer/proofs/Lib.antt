@@ -1,0 +1,7 @@
+pub mod WordLaws
+pub mod Putting
+pub mod EntryLaws
+pub mod ImageLaws
+pub mod RefusalLaws
+pub mod ReadBack
+pub mod RoundTrip

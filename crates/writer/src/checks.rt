@@ -1,0 +1,182 @@
+// The refusals of writing (02, L2), in number order: the reader's 3, 5, 6 and 7, by its own rules for an
+// instruction, for a region and for the counts, then 12.
+use super::refusals::NO_ROOM;
+use image::Refusal;
+use image::Region;
+use image::format;
+use image::refusals::ACCEPTED;
+use image::refusals::BAD_INSTRUCTION;
+use image::refusals::BAD_REGION;
+use image::refusals::OUT_OF_LIMITS;
+use image::refusals::WRONG_SUM;
+use image::refuse;
+use rules::bytes;
+ghost use mathlib.Core.Path.{_≡_};
+ghost use Prim.Native.Nat.{_+_, _*_, _/_, _≤_, _<_, _^_};
+ghost use lib.ListN.{length};
+ghost use Rattle.image.specs.Format.{mostM, mostN, mostR, mostD};
+ghost use Rattle.image.specs.Regions.{regionAt, filledSum};
+ghost use Rattle.image.specs.Refusals.{instructionOk, codeRefusal, regionRefusal};
+ghost use Rattle.writer.specs.Words.{bytesOf, instructionWords, regionWords};
+ghost use Rattle.writer.specs.Pieces.{Counted};
+ghost use Rattle.writer.specs.Writing.{instructionCount, regionCount, countsOk, entriesRefusal, roomOk, writeRefusal};
+
+// The words of an instruction and of a region.
+const INSTRUCTION: usize = 2;
+
+const REGION: usize = 3;
+
+// How many instructions a list holds.
+pub fn instruction_count(instructions: &[u32]) -> usize
+    ensures { λ r. ⌜ r ≡ instructionCount (now (instructions .entry)) ⌝ }
+{
+    instructions.len() / INSTRUCTION
+}
+
+// How many regions.
+pub fn region_count(regions: &[u32]) -> usize
+    ensures { λ r. ⌜ r ≡ regionCount (now (regions .entry)) ⌝ }
+{
+    regions.len() / REGION
+}
+
+// Whether the lists have whole entries, and M, N, R and D keep their limits.
+fn counts_ok(m: u32, instructions: &[u32], regions: &[u32], d: usize) -> bool
+    ensures { λ t. ⌜ t ≡ countsOk m (now (instructions .entry)) (now (regions .entry)) d ⌝ }
+{
+    let n = instruction_count(instructions);
+    let r = region_count(regions);
+    (instructions.len() % INSTRUCTION == 0)
+        & (regions.len() % REGION == 0)
+        & format::limits_ok(m as usize, n, r, d)
+}
+
+// Whether instruction number i keeps its row.
+fn instruction_ok(instructions: &[u32], i: usize, n: u32, m: u32) -> bool
+    requires { ⌜ instructionWords * i + instructionWords ≤ length (now instructions) ⌝ }
+    ensures { λ t. ⌜ t ≡ instructionOk (bytesOf (now (instructions .entry))) n m i ⌝ }
+{
+    let at = INSTRUCTION * i;
+    let first = instructions[at];
+    let imm = instructions[at + 1];
+    image::keeps_row(
+        bytes::byte(first, 0),
+        bytes::byte(first, 1),
+        bytes::byte(first, 2),
+        bytes::byte(first, 3),
+        imm,
+        n,
+        m,
+    )
+}
+
+// Refusal 5 at the first instruction that breaks its row.
+fn check_instructions(instructions: &[u32], n: u32, m: u32) -> Refusal
+    requires { ⌜ length (now instructions) ≡ instructionWords * n ⌝ }
+    ensures { λ t. ⌜ t ≡ codeRefusal (bytesOf (now (instructions .entry))) n m ⌝ }
+{
+    let count = n as usize;
+    let mut i = 0;
+    while i < count {
+        if !instruction_ok(instructions, i, n, m) {
+            return refuse(BAD_INSTRUCTION, i);
+        }
+        i += 1;
+    }
+    refuse(ACCEPTED, 0)
+}
+
+// Region number i.
+fn region_in(regions: &[u32], i: usize) -> Region
+    requires { ⌜ regionWords * i + regionWords ≤ length (now regions) ⌝ }
+    ensures { λ t. ⌜ t ≡ regionAt (bytesOf (now (regions .entry))) i ⌝ }
+{
+    let at = REGION * i;
+    Region {
+        start: regions[at],
+        size: regions[at + 1],
+        kind: regions[at + 2],
+    }
+}
+
+// Refusal 6 at the first region that breaks the rules.
+fn check_regions(regions: &[u32], r: u32, m: u32) -> Refusal
+    requires { ⌜ length (now regions) ≡ regionWords * r ⌝ }
+    ensures { λ t. ⌜ t ≡ regionRefusal (bytesOf (now (regions .entry))) r m ⌝ }
+{
+    let count = r as usize;
+    let mut before = 0;
+    let mut i = 0;
+    while i < count {
+        let found = region_in(regions, i);
+        if !image::region_keeps(found, before, m) {
+            return refuse(BAD_REGION, i);
+        }
+        before = image::end_of(found);
+        i += 1;
+    }
+    refuse(ACCEPTED, 0)
+}
+
+// How many bytes of data belong to the regions.
+fn filled_sum(regions: &[u32], r: u32) -> usize
+    requires { ⌜ length (now regions) ≡ regionWords * r ⌝ }
+    ensures { λ t. ⌜ t ≡ filledSum (bytesOf (now (regions .entry))) r ⌝ }
+{
+    let count = r as usize;
+    let mut sum = 0;
+    let mut i = 0;
+    while i < count {
+        sum += image::filled_of(region_in(regions, i));
+        i += 1;
+    }
+    sum
+}
+
+// Refusals 5, 6 and 7, of whole entries within the limits.
+fn check_entries(m: u32, instructions: &[u32], regions: &[u32], d: usize) -> Refusal
+    requires { ⌜ Counted m (now instructions) (now regions) d ⌝ }
+    ensures { λ t. ⌜ t ≡ entriesRefusal m (now (instructions .entry)) (now (regions .entry)) d ⌝ }
+{
+    let n = instruction_count(instructions) as u32;
+    let r = region_count(regions) as u32;
+    let in_code = check_instructions(instructions, n, m);
+    if in_code.number != ACCEPTED {
+        return in_code;
+    }
+    let in_regions = check_regions(regions, r, m);
+    if in_regions.number != ACCEPTED {
+        return in_regions;
+    }
+    if filled_sum(regions, r) != d {
+        return refuse(WRONG_SUM, 0);
+    }
+    refuse(ACCEPTED, 0)
+}
+
+// Whether a buffer of so many bytes has room for the image.
+fn room_ok(instructions: &[u32], regions: &[u32], d: usize, room: usize) -> bool
+    requires { ⌜ (instructionCount (now instructions) ≤ mostN) × (regionCount (now regions) ≤ mostR) × (d ≤ mostD) ⌝ }
+    ensures { λ t. ⌜ t ≡ roomOk (now (instructions .entry)) (now (regions .entry)) d room ⌝ }
+{
+    let n = instruction_count(instructions) as u32;
+    let r = region_count(regions) as u32;
+    format::data_at(n, r) + d <= room
+}
+
+// The first refusal that applies, in number order.
+pub fn check(m: u32, instructions: &[u32], regions: &[u32], d: usize, room: usize) -> Refusal
+    ensures { λ t. ⌜ t ≡ writeRefusal m (now (instructions .entry)) (now (regions .entry)) d room ⌝ }
+{
+    if !counts_ok(m, instructions, regions, d) {
+        return refuse(OUT_OF_LIMITS, 0);
+    }
+    let in_entries = check_entries(m, instructions, regions, d);
+    if in_entries.number != ACCEPTED {
+        return in_entries;
+    }
+    if !room_ok(instructions, regions, d, room) {
+        return refuse(NO_ROOM, 0);
+    }
+    refuse(ACCEPTED, 0)
+}
