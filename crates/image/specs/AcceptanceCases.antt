@@ -8,7 +8,7 @@ use Rattle.image.specs.Refusals.{refused}
 use Rattle.image.specs.declared.Refusal.{Refusal}
 
 -- an image that is accepted: M 8; three instructions, three regions, three bytes of data; 95 bytes
-abbrev base : List ℕ
+abbrev pub base : List ℕ
 base =
     -- 0: the first four bytes, M, N, the code's offset
     0x54 ∷ 0x55 ∷ 0x4E ∷ 0x31 ∷ 8 ∷ 0 ∷ 0 ∷ 0 ∷ 3 ∷ 0 ∷ 0 ∷ 0 ∷ 32 ∷ 0 ∷ 0 ∷ 0

@@ -5,3 +5,4 @@ pub mod ImageLaws
 pub mod RefusalLaws
 pub mod ReadBack
 pub mod RoundTrip
+pub mod Cases
