@@ -1,20 +1,21 @@
 -- What the writer's refusals say of the lists, and what it answers.
-use Prim.Native.Nat.{ℕ, _*_, _/_, _%_, _≤_}
+use Prim.Native.Nat.{ℕ, _+_, _*_, _/_, _%_, _≤_}
 use mathlib.Core.Path.{_≡_, refl, sym, _∙_, ap}
 use mathlib.Core.Bool.{Bool, true, false, cond, _&&_}
 use mathlib.Core.List.{List}
 use native.Mathlib.Omega.{arith}
 use lib.ListN.{length}
-use lib.Dec.{lit<, eqb}
+use lib.Dec.{lit<, leb, eqb}
 use lib.Seq.{sets}
 use borrow.Author.Tests.{leb-true, eqb-true, eq-eqb, ne-eqb}
-use Rattle.image.specs.Format.{sizeOf, limitsOk}
-use Rattle.image.specs.Refusals.{accepted, unless, orElse, outOfLimits}
+use Rattle.image.specs.Format.{dataAt, sizeOf, limitsOk}
+use Rattle.image.specs.Regions.{filledSum}
+use Rattle.image.specs.Refusals.{refused, accepted, unless, orElse, outOfLimits, wrongSum, codeRefusal, regionRefusal}
 use Rattle.image.specs.declared.Refusal.{Refusal}
 use Rattle.image.proofs.Tests.{all-three}
 use Rattle.image.proofs.Faults.{passed, both-passed}
 use Rattle.image.proofs.AcceptedImage.{limits-hold}
-use Rattle.writer.specs.Words.{instructionWords, regionWords}
+use Rattle.writer.specs.Words.{bytesOf, instructionWords, regionWords}
 use Rattle.writer.specs.Writing.{noRoom, instructionCount, regionCount, imageOf, wholeEntries, countsOk, entriesRefusal, roomOk, writeRefusal, Written, written, notWritten, writeAnswer}
 use Rattle.writer.specs.Pieces.{Counted}
 use Rattle.writer.proofs.ImageLaws.{image-length, put-front}
@@ -28,6 +29,21 @@ module _ (m : ℕ) (instructions regions : List ℕ) (d : ℕ) where
       let code : length instructions % 2 ≡ 0 = eqb-true _ _ (e .0) in
       let places : length regions % 3 ≡ 0 = eqb-true _ _ (e .1) in
       record { code = omega arith; places = omega arith; limits = limits-hold _ _ _ _ (e .2) }
+
+  -- ---- the tests in their order
+  pub counts-fail : (room : ℕ) → countsOk m instructions regions d ≡ false → writeRefusal m instructions regions d room ≡ refused outOfLimits 0
+  unfolding writeRefusal
+  counts-fail room h = rw h
+
+  -- of counts that pass, n and r, of what the tests of the entries found, the filled sum and where the data begins
+  pub write-tests : (room : ℕ) {n r : ℕ} {in-code in-regions : Refusal} {total at : ℕ} → countsOk m instructions regions d ≡ true
+      → n ≡ instructionCount instructions → r ≡ regionCount regions
+      → in-code ≡ codeRefusal (bytesOf instructions) n m → in-regions ≡ regionRefusal (bytesOf regions) r m
+      → total ≡ filledSum (bytesOf regions) r → at ≡ dataAt n r
+      → writeRefusal m instructions regions d room
+      ≡ orElse (orElse in-code (orElse in-regions (unless (eqb total d) wrongSum accepted))) (unless (leb (at + d) room) noRoom accepted)
+  unfolding writeRefusal entriesRefusal
+  write-tests room h en er e5 e6 e7 e12 = rw (h, ← en, ← er, ← e5, ← e6, ← e7, ← e12)
 
   -- nothing refused
   pub record Allowed (room : ℕ) : Type 0 where

@@ -12,14 +12,12 @@ use image::refusals::WRONG_SUM;
 use image::refuse;
 use rules::bytes;
 ghost use mathlib.Core.Path.{_≡_};
-ghost use Prim.Native.Nat.{_+_, _*_, _/_, _≤_, _<_, _^_};
+ghost use Prim.Native.Nat.{_+_, _*_, _≤_};
 ghost use lib.ListN.{length};
-ghost use Rattle.image.specs.Format.{mostM, mostN, mostR, mostD};
 ghost use Rattle.image.specs.Regions.{regionAt, filledSum};
 ghost use Rattle.image.specs.Refusals.{instructionOk, codeRefusal, regionRefusal};
 ghost use Rattle.writer.specs.Words.{bytesOf, instructionWords, regionWords};
-ghost use Rattle.writer.specs.Pieces.{Counted};
-ghost use Rattle.writer.specs.Writing.{instructionCount, regionCount, countsOk, entriesRefusal, roomOk, writeRefusal};
+ghost use Rattle.writer.specs.Writing.{instructionCount, regionCount, countsOk, writeRefusal};
 
 // The words of an instruction and of a region.
 const INSTRUCTION: usize = 2;
@@ -133,11 +131,13 @@ fn filled_sum(regions: &[u32], r: u32) -> usize
     sum
 }
 
-// Refusals 5, 6 and 7, of whole entries within the limits.
-fn check_entries(m: u32, instructions: &[u32], regions: &[u32], d: usize) -> Refusal
-    requires { ⌜ Counted m (now instructions) (now regions) d ⌝ }
-    ensures { λ t. ⌜ t ≡ entriesRefusal m (now (instructions .entry)) (now (regions .entry)) d ⌝ }
+// The first refusal that applies, in number order.
+pub fn check(m: u32, instructions: &[u32], regions: &[u32], d: usize, room: usize) -> Refusal
+    ensures { λ t. ⌜ t ≡ writeRefusal m (now (instructions .entry)) (now (regions .entry)) d room ⌝ }
 {
+    if !counts_ok(m, instructions, regions, d) {
+        return refuse(OUT_OF_LIMITS, 0);
+    }
     let n = instruction_count(instructions) as u32;
     let r = region_count(regions) as u32;
     let in_code = check_instructions(instructions, n, m);
@@ -148,34 +148,12 @@ fn check_entries(m: u32, instructions: &[u32], regions: &[u32], d: usize) -> Ref
     if in_regions.number != ACCEPTED {
         return in_regions;
     }
-    if filled_sum(regions, r) != d {
+    let filled = filled_sum(regions, r);
+    let size = format::data_at(n, r) + d;
+    if filled != d {
         return refuse(WRONG_SUM, 0);
     }
-    refuse(ACCEPTED, 0)
-}
-
-// Whether a buffer of so many bytes has room for the image.
-fn room_ok(instructions: &[u32], regions: &[u32], d: usize, room: usize) -> bool
-    requires { ⌜ (instructionCount (now instructions) ≤ mostN) × (regionCount (now regions) ≤ mostR) × (d ≤ mostD) ⌝ }
-    ensures { λ t. ⌜ t ≡ roomOk (now (instructions .entry)) (now (regions .entry)) d room ⌝ }
-{
-    let n = instruction_count(instructions) as u32;
-    let r = region_count(regions) as u32;
-    format::data_at(n, r) + d <= room
-}
-
-// The first refusal that applies, in number order.
-pub fn check(m: u32, instructions: &[u32], regions: &[u32], d: usize, room: usize) -> Refusal
-    ensures { λ t. ⌜ t ≡ writeRefusal m (now (instructions .entry)) (now (regions .entry)) d room ⌝ }
-{
-    if !counts_ok(m, instructions, regions, d) {
-        return refuse(OUT_OF_LIMITS, 0);
-    }
-    let in_entries = check_entries(m, instructions, regions, d);
-    if in_entries.number != ACCEPTED {
-        return in_entries;
-    }
-    if !room_ok(instructions, regions, d, room) {
+    if room < size {
         return refuse(NO_ROOM, 0);
     }
     refuse(ACCEPTED, 0)
