@@ -12,7 +12,7 @@ static uint8_t image[UVIKTALIK_MAX_IMAGE], memory[BUFFERS][UVIKTALIK_MAX_MEMORY]
 static uint32_t header[UVIKTALIK_HEADER_WORDS], regs[UVIKTALIK_REGISTERS];
 static uint32_t state[UVIKTALIK_STATE_WORDS];
 static uint32_t report_list[UVIKTALIK_MAX_REPORT_LIST], output_list[UVIKTALIK_MAX_OUTPUT_LIST];
-static size_t code[2], fault;
+static size_t code[2], fault, written;
 static uint8_t reason;
 static int status;
 
@@ -52,6 +52,27 @@ static uint8_t run(struct bytes from, struct words reports, struct words outputs
                          UVIKTALIK_MAX_STEPS, &reason, &fault);
 }
 
+static uint8_t write_stop(struct words instructions, struct bytes out)
+{
+    return uviktalik_write(1, instructions.at, instructions.size, NULL, 0, NULL, 0, out.at,
+                           out.size, &written, &fault);
+}
+
+static void try_writing(void)
+{
+    static uint32_t stop[UVIKTALIK_INSTRUCTION_WORDS];
+    static uint8_t smallest[40];
+    const struct words instructions = {stop, UVIKTALIK_INSTRUCTION_WORDS};
+    const struct bytes out = {smallest, sizeof smallest};
+    expect(write_stop(no_words, out) == UVIKTALIK_REFUSED_OUT_OF_LIMITS, "write nothing");
+    expect(write_stop(instructions, no_bytes) == UVIKTALIK_REFUSED_NO_ROOM, "write to nothing");
+    expect(written == 0, "the size of what was refused");
+    expect(write_stop(instructions, out) == UVIKTALIK_ACCEPTED, "write without regions and data");
+    expect(written == sizeof smallest, "the size of the smallest image");
+    expect(uviktalik_read(smallest, written, header, code, &fault) == UVIKTALIK_ACCEPTED,
+           "read what was written");
+}
+
 int main(void)
 {
     const struct words reports = {report_list, UVIKTALIK_MAX_REPORT_LIST};
@@ -87,5 +108,6 @@ int main(void)
     begin(from);
     expect(run(from, reports, no_words) == UVIKTALIK_ACCEPTED, "run without an output list");
     expect(reason == UVIKTALIK_REASON_NO_PLACE, "the end without an output list");
+    try_writing();
     return status;
 }

@@ -43,7 +43,7 @@ fn every_call_of_the_header_is_declared_so_by_the_binding_and_by_capi() {
     let header = header();
     let rust = declared::by_the_binding(include_str!("../../src/sys.rs"), &header.numbers);
     let rattle = declared::by_capi(&crate_text(CAPI));
-    assert_eq!(header.functions.len(), 4);
+    assert_eq!(header.functions.len(), 5);
     assert_eq!(header.functions, rust);
     assert_eq!(header.functions, rattle);
 }
@@ -54,7 +54,7 @@ fn the_version_ends_the_names_of_the_calls() {
     let version = header.numbers["VERSION"];
     assert_eq!(uviktalik::version(), numbers::VERSION);
     let with_version: Vec<String> =
-        ["begin", "read", "run"].map(|call| format!("uviktalik_{call}_{version}")).into();
+        ["begin", "read", "run", "write"].map(|call| format!("uviktalik_{call}_{version}")).into();
     let mut symbols: Vec<String> = header.functions.keys().cloned().collect();
     symbols.retain(|symbol| symbol != "uviktalik_version");
     assert_eq!(symbols, with_version);
@@ -87,6 +87,7 @@ fn refusals_stop_reasons_and_kinds_are_those_of_the_crates() {
     let header = header();
     let mut refusals = constants_of("image/src/refusals.rt");
     refusals.extend(constants_of("checker/src/refusals.rt"));
+    refusals.extend(constants_of("writer/src/refusals.rt"));
     assert_eq!(refusals.remove("ACCEPTED"), Some(header.numbers["ACCEPTED"]));
     assert_eq!(group(&header, "REFUSED_"), refusals);
     let mut reasons = constants_of("checker/src/reasons.rt");
@@ -99,6 +100,7 @@ fn refusals_stop_reasons_and_kinds_are_those_of_the_crates() {
 #[test]
 fn the_limits_are_those_of_the_crates() {
     let (image, run) = (constants_of("image/src/format.rt"), constants_of("checker/src/limits.rt"));
+    let lists = constants_of("writer/src/checks.rt");
     let sizes = image["HEADER"] + image["INSTRUCTION"] * image["MOST_N"];
     let sizes = sizes + image["REGION"] * image["MOST_R"] + image["MOST_D"];
     for (name, number) in [
@@ -110,6 +112,8 @@ fn the_limits_are_those_of_the_crates() {
         ("MAX_REGIONS", image["MOST_R"]),
         ("MAX_DATA", image["MOST_D"]),
         ("MAX_IMAGE", sizes),
+        ("INSTRUCTION_WORDS", lists["INSTRUCTION"]),
+        ("REGION_WORDS", lists["REGION"]),
         ("MAX_STEPS", run["MOST_STEPS"]),
         ("REPORT_WORDS", run["REPORT"]),
         ("OUTPUT_WORDS", run["OUTPUT"]),
