@@ -19,7 +19,6 @@ pub use regions::filled_of;
 pub use regions::region_at;
 pub use regions::region_keeps;
 pub use rows::decode;
-pub use rows::keeps_row;
 
 // The second operand, B.
 pub enum Operand {

@@ -109,14 +109,6 @@ fn fields_ok(row: Row, d: u8, a: u8, b: u8, imm: u32, n: u32, m: u32) -> bool
     }
 }
 
-// Whether an instruction with these fields keeps the row of its op, in an image with n instructions and
-// m bytes of memory.
-pub fn keeps_row(op: u8, d: u8, a: u8, b: u8, imm: u32, n: u32, m: u32) -> bool
-    ensures { λ r. ⌜ r ≡ fieldsOk (rowOf op) d a b imm n m ⌝ }
-{
-    fields_ok(row_of(op), d, a, b, imm, n, m)
-}
-
 fn operand_of(b: u8, imm: u32) -> Operand
     ensures { λ r. ⌜ r ≡ operandOf b imm ⌝ }
 {

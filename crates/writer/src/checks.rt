@@ -1,6 +1,9 @@
 // The refusals of writing (02, L2), in number order: the reader's 3, 5, 6 and 7, by its own rules for an
 // instruction, for a region and for the counts, then 12.
+use super::bytes;
+use super::bytes::WORD;
 use super::refusals::NO_ROOM;
+use image::Decoded;
 use image::Refusal;
 use image::Region;
 use image::format;
@@ -10,7 +13,6 @@ use image::refusals::BAD_REGION;
 use image::refusals::OUT_OF_LIMITS;
 use image::refusals::WRONG_SUM;
 use image::refuse;
-use rules::bytes;
 ghost use mathlib.Core.Path.{_≡_};
 ghost use Prim.Native.Nat.{_+_, _*_, _≤_};
 ghost use lib.ListN.{length};
@@ -49,23 +51,19 @@ fn counts_ok(m: u32, instructions: &[u32], regions: &[u32], d: usize) -> bool
         & format::limits_ok(m as usize, n, r, d)
 }
 
-// Whether instruction number i keeps its row.
+// Whether instruction number i keeps its row: whether the eight bytes that it is written as decode.
 fn instruction_ok(instructions: &[u32], i: usize, n: u32, m: u32) -> bool
     requires { ⌜ instructionWords * i + instructionWords ≤ length (now instructions) ⌝ }
     ensures { λ t. ⌜ t ≡ instructionOk (bytesOf (now (instructions .entry))) n m i ⌝ }
 {
     let at = INSTRUCTION * i;
-    let first = instructions[at];
-    let imm = instructions[at + 1];
-    image::keeps_row(
-        bytes::byte(first, 0),
-        bytes::byte(first, 1),
-        bytes::byte(first, 2),
-        bytes::byte(first, 3),
-        imm,
-        n,
-        m,
-    )
+    let mut row = [0; format::INSTRUCTION];
+    bytes::put_word(&mut row, 0, instructions[at]);
+    bytes::put_word(&mut row, WORD, instructions[at + 1]);
+    let Decoded::Valid(_) = image::decode(&row, 0, n, m) else {
+        return false;
+    };
+    true
 }
 
 // Refusal 5 at the first instruction that breaks its row.
