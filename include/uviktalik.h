@@ -30,9 +30,9 @@
  *     size of 0 does what any other pointer does there: it is not followed, and the compiler was
  *     not told that pointers are not null. The gate tries it (tests/null.c); no proof speaks of it.
  *   - There is stack enough. As built now, and measured, not proved, a run takes 13,120 bytes besides
- *     its arguments, beginning 624 and reading 256; 12,312 of the run's hold the decoded program,
- *     twice. A program that binds memcpy and memset only when they are first called needs some 3,000
- *     bytes more for that.
+ *     its arguments, beginning 624, reading 256 and writing 192; 12,312 of the run's hold the decoded
+ *     program, twice. A program that binds memcpy and memset only when they are first called needs
+ *     some 3,000 bytes more for that.
  */
 #ifndef UVIKTALIK_H
 #define UVIKTALIK_H
