@@ -33,7 +33,6 @@ enum {
 enum { CHARACTER = 5, POINT = 17, RESULT = 20 };
 /* Where memory has the text and the scale. */
 enum { TEXT = 0, SCALE = 8 };
-enum { FILLED = 1, UNDEFINED = 2 };
 
 static const uint32_t instructions[] = {
     BY_LITERAL(MOV, 0, 0, 0),       /* r0: base of the addresses */
@@ -62,8 +61,8 @@ static const uint32_t instructions[] = {
     ROW(STOP, 0, 0, 0, 0),
 };
 static const uint32_t regions[] = {
-    TEXT,  4, FILLED,    /* the text */
-    SCALE, 4, UNDEFINED, /* the scale, addressable but undefined */
+    TEXT,  4, UVIKTALIK_FILLED,    /* the text */
+    SCALE, 4, UVIKTALIK_UNDEFINED, /* the scale */
 };
 static const uint8_t text[] = "1,5"; /* and the end of the text */
 

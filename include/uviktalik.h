@@ -4,20 +4,20 @@
  *   uviktalik_read   reads an image: its sizes, and where its code lies
  *   uviktalik_begin  sets out memory, V bits, A bits and a state as the image says
  *   uviktalik_run    runs the program on from a state and reports each use of an undefined bit
- *   uviktalik_write  writes an image: from memory's size, instructions, regions and data
+ *   uviktalik_write  writes an image from memory's size, instructions, regions and data
  *
  * `rt staticlib capi` proves and builds them into target/staticlib/libcapi.a. They need no other
  * library but the C library's memcpy and memset, allocate nothing and keep nothing between calls,
- * so threads may call at the same time, each with buffers of its own. examples/embed.c is a whole
- * program.
+ * so threads may call at the same time, each with buffers of its own. examples/embed.c and
+ * assemble.c are whole programs.
  *
- * WHAT IS PROMISED. A call takes any bytes as an image, any words as a state, any budget, and
- * buffers and lists of any size. It checks all of it itself, ends, and leaves every byte and word
- * that it was lent as is said at the call below, whether it accepts or refuses. This is proved for
- * every input; the formal statement is the contracts in crates/capi/src/lib.rt, over the
- * definitions of crates/capi/specs/Promises.antt. What an image holds and what an instruction does
- * are the machine's rules (documents 01 and 02; crates/image/specs,
- * crates/rules/specs, crates/machine/specs).
+ * WHAT IS PROMISED. A call takes any bytes as an image, any words as a state, as instructions and
+ * as regions, any budget, and buffers and lists of any size. It checks all of it itself, ends, and
+ * leaves every byte and word that it was lent as is said at the call below, whether it accepts or
+ * refuses. This is proved for every input; the formal statement is the contracts in
+ * crates/capi/src/lib.rt, over the definitions of crates/capi/specs/Promises.antt. What an image
+ * holds and what an instruction does are the machine's rules (documents 01 and 02;
+ * crates/image/specs, crates/writer/specs, crates/rules/specs, crates/machine/specs).
  *
  * WHAT IS ASKED, which no call can check, and without which nothing is promised:
  *   - A pointer refers to as many elements as the size after it says, an array parameter to as many
@@ -25,14 +25,15 @@
  *     vbits, abits, data and out, WORDS of reports, outputs, instructions and regions (not entries,
  *     and not bytes).
  *   - What a call writes overlaps nothing else that it is lent: no two buffers or lists share
- *     memory, and regs is no part of the state that beginning writes.
+ *     memory, but those that it only reads (image, regs, instructions, regions, data) may, and regs
+ *     is no part of the state that beginning writes.
  *   - No pointer is null, not even beside a size of 0. As the library is built now, NULL beside a
  *     size of 0 does what any other pointer does there: it is not followed, and the compiler was
  *     not told that pointers are not null. The gate tries it (tests/null.c); no proof speaks of it.
- *   - There is stack enough. As built now, and measured, not proved, a run takes 13,120 bytes besides
- *     its arguments, beginning 624, reading 256 and writing 192; 12,312 of the run's hold the decoded
- *     program, twice. A program that binds memcpy and memset only when they are first called needs
- *     some 3,000 bytes more for that.
+ *   - There is stack enough. As built now, and measured, not proved, a run takes 13,120 bytes
+ *     besides its arguments, beginning 624, reading 256 and writing 192; 12,312 of the run's hold
+ *     the decoded program, twice. A program that binds memcpy and memset only when they are first
+ *     called needs some 3,000 bytes more for that.
  */
 #ifndef UVIKTALIK_H
 #define UVIKTALIK_H
@@ -46,13 +47,13 @@ extern "C" {
 
 /*
  * The version: which parameters the calls have, which words a state and a list's entry, and what
- * the limits are, by which programs size their buffers. It is part of the symbols' names, so that a
- * program that was compiled for another version does not link (undefined reference to
- * `uviktalik_run_..') instead of writing past its buffers. The machine's rules are not in it: under
- * the same version another library may have more instructions, refusals, stop reasons and kinds of
- * report, may refuse an image that this one accepts, and may have finer rules for V bits, by which
- * it reports less. A program that loads the library while it runs asks for the symbols below by
- * their whole names.
+ * the limits are, by which programs size their buffers. It is part of the symbols' names, so that
+ * a program that was compiled for another version does not link (undefined reference to
+ * `uviktalik_run_..') instead of writing past its buffers. The machine's rules are not in it:
+ * under the same version another library may have more calls, instructions, refusals, stop reasons
+ * and kinds of report, may refuse an image that this one accepts, and may have finer rules for V
+ * bits, by which it reports less. A program that loads the library while it runs asks for the
+ * symbols below by their whole names.
  */
 #define UVIKTALIK_VERSION 1
 #define uviktalik_read uviktalik_read_1
@@ -117,7 +118,9 @@ enum {
 
 /*
  * The words of an instruction and of a region, as writing takes them. The first word of an
- * instruction has its bytes op, d, a, b from the lowest on: op + (d << 8) + (a << 16) + (b << 24).
+ * instruction has its bytes op, d, a, b from the lowest on:
+ *   op | d << 8 | a << 16 | (uint32_t)b << 24
+ * MOV 2 with the literal 5 (b 255) is 0xFF000201, 5.
  */
 enum {
     UVIKTALIK_INSTRUCTION_FIELDS = 0, /* op, d, a, b */
@@ -127,8 +130,12 @@ enum {
 enum {
     UVIKTALIK_REGION_START = 0,
     UVIKTALIK_REGION_LENGTH = 1,
-    UVIKTALIK_REGION_KIND = 2, /* 1: filled from the data; 2: addressable but undefined */
+    UVIKTALIK_REGION_KIND = 2, /* one of the two below */
     UVIKTALIK_REGION_WORDS = 3 /* how many words there are */
+};
+enum {
+    UVIKTALIK_FILLED = 1,   /* its bytes are the next ones of the data */
+    UVIKTALIK_UNDEFINED = 2 /* addressable but undefined; the data has no bytes for it */
 };
 
 /* The kinds of report: what was used, and what the detail is. */
@@ -234,9 +241,10 @@ uint8_t uviktalik_run(const uint8_t *image, size_t image_size,
                       size_t outputs_size, uint32_t budget, uint8_t *reason, size_t *fault);
 
 /*
- * Writes the image of M bytes of memory, N instructions of two words, R regions of three words and
- * the D bytes that fill regions, in the regions' order. Refusals 3, 5, 6 and 7 as reading that image
- * would give them, then 12. The lists' sizes are words: 2 N and 3 R.
+ * Writes the image of m bytes of memory, instructions of two words each, regions of three words
+ * each, and the data that fills regions, in the regions' order: M is m, N instructions_size / 2, R
+ * regions_size / 3, D data_size. Refusals 3, 5, 6 and 7 as reading that image would give them, then
+ * 12; UVIKTALIK_MAX_IMAGE bytes of out are always enough.
  *            accepted                                     refused
  *   out      the image; bytes past it as they were        as it was
  *   *size    the image's bytes: 32 + 8 N + 12 R + D       0

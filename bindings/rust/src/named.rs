@@ -42,7 +42,7 @@ named! {
     Cause(u8), "REFUSED_";
     TOO_SHORT = 1, "the image has under 32 bytes";
     WRONG_MAGIC = 2, "the image's first four bytes are not 54 55 4E 31";
-    OUT_OF_LIMITS = 3, "M, N, R or D is out of its limits, or a list ends in a part of an entry";
+    OUT_OF_LIMITS = 3, "M, N, R or D is out of its limits, or, writing, a list has a part of an entry";
     WRONG_LAYOUT = 4, "an offset or the image's length is not as computed from N, R and D";
     BAD_INSTRUCTION = 5, "an instruction breaks its row, has none, or writes register 15";
     BAD_REGION = 6, "a region breaks its rules";

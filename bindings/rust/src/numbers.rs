@@ -99,6 +99,10 @@ numbers! {
     REGION_KIND: usize = 2;
     /// The words of a region.
     REGION_WORDS: usize = 3;
+    /// The kind of a region whose bytes are the next ones of the data.
+    FILLED: u32 = 1;
+    /// The kind of a region that is addressable but undefined.
+    UNDEFINED: u32 = 2;
 
     /// What a call returns that is not refused.
     ACCEPTED: u8 = 0;

@@ -1,8 +1,8 @@
 // The checker for programs in other languages: reading, beginning, running and writing by C's calling
 // convention, on numbers and lent buffers. Nothing is asked of the caller but what the parameters'
 // types say (include/uviktalik.h), and each call promises what the call of `image`, `checker` or
-// `writer` of its name does, for every input. The functions' names are the symbols that a program is linked by;
-// the version ends them, so that a program for another version does not link.
+// `writer` of its name does, for every input. The functions' names are the symbols that a program is
+// linked by; the version ends them, so that a program for another version does not link.
 use checker::Counts;
 use checker::State;
 use flat::registers;

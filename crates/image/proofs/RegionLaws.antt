@@ -13,6 +13,10 @@ unfolding endBefore
 end-after regions zero h = absurd (h refl)
 end-after regions (suc i) h = ap (λ (k : ℕ). endOf (regionAt regions k)) (omega arith)
 
+pub end-next : (regions : List ℕ) (i : ℕ) → endBefore regions (i + 1) ≡ endOf (regionAt regions i)
+unfolding endBefore
+end-next regions i = rw (add-one i)
+
 pub filled-next : (regions : List ℕ) (i : ℕ) → filledSum regions (i + 1) ≡ filledSum regions i + filledOf (regionAt regions i)
 unfolding filledSum
 filled-next regions i = rw (add-one i)

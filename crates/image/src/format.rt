@@ -56,7 +56,8 @@ pub const LARGEST: usize = HEADER
     + REGION * (MOST_R as usize)
     + MOST_D as usize;
 
-// Whether M, N, R and D keep their limits: of any numbers, as a caller may have counted them.
+// Whether M, N, R and D keep their limits. They are usize, so that a count is compared before it is
+// narrowed.
 pub fn limits_ok(m: usize, n: usize, r: usize, d: usize) -> bool
     ensures { λ t. ⌜ t ≡ limitsOk m n r d ⌝ }
 {

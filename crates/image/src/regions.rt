@@ -44,7 +44,7 @@ fn end_before(regions: &[u8], i: usize) -> usize
     end_of(region_at(regions, i - 1))
 }
 
-// Whether a region keeps the rules, if the one before it ends there.
+// Whether a region keeps the rules, where the one before it ends at `before`.
 pub fn region_keeps(found: Region, before: usize, m: u32) -> bool
     ensures { λ r. ⌜ r ≡ regionKeeps found before m ⌝ }
 {

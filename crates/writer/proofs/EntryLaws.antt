@@ -3,17 +3,14 @@ use Prim.Native.Nat.{ℕ, zero, suc, _+_, _*_, _/_, _^_, _≤_, _<_}
 use mathlib.Core.Path.{_≡_, refl, sym, _∙_, ap}
 use mathlib.Core.Bool.{Bool, true, false, cond}
 use mathlib.Core.List.{List, [], _∷_}
-use native.Mathlib.Numerals.{add-one}
 use native.Mathlib.Omega.{arith}
 use lib.ListN.{length, getD, replicate}
 use lib.Seq.{sets}
 use borrow.Author.Tests.{lt-ltb}
 use Rattle.rules.specs.Bytes.{byteOf}
 use Rattle.image.specs.Rows.{rowOf, fieldsOk, built, decoded, Fields, fieldsAt, decodedFrom, decodeAt}
-use Rattle.image.specs.Regions.{regionAt, endOf, endBefore, regionKeeps, regionOk}
+use Rattle.image.specs.Regions.{regionAt, endBefore, regionKeeps, regionOk}
 use Rattle.image.specs.Refusals.{isValid, instructionOk}
-use Rattle.image.specs.Encoding.{fields}
-use Rattle.image.specs.declared.Decoded.{Decoded}
 use Rattle.image.specs.declared.Decoded.the-variants.{Valid, Fault}
 use Rattle.image.specs.declared.Instruction.{Instruction}
 use Rattle.image.specs.declared.Region.{Region}
@@ -73,7 +70,3 @@ pub region-kept : (rs : List ℕ) (m i : ℕ) (region : Region) (before : ℕ) (
 unfolding regionOk
 region-kept rs m i region before t e f h =
     sym (h ∙ ap (λ (x : Region). regionKeeps x before m) e ∙ ap (λ (b : ℕ). regionKeeps (regionAt rs i) b m) f)
-
-pub end-next : (rs : List ℕ) (i : ℕ) → endBefore rs (i + 1) ≡ endOf (regionAt rs i)
-unfolding endBefore
-end-next rs i = rw (add-one i)

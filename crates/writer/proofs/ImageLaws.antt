@@ -1,8 +1,7 @@
 -- The parts of an image that is made of lists: where they stand, how they are put there, how they are found again.
-use Prim.Native.Nat.{ℕ, suc, _+_, _*_, _^_, _≤_, _<_}
+use Prim.Native.Nat.{ℕ, _+_, _*_, _≤_}
 use mathlib.Core.Path.{_≡_, refl, sym, _∙_, ap}
-use mathlib.Core.Bool.{Bool, true, false}
-use mathlib.Core.List.{List, [], _∷_, _++_, append-assoc}
+use mathlib.Core.List.{List, _++_, append-assoc}
 use native.Mathlib.Omega.{arith}
 use lib.ListN.{length, take, drop, length-append}
 use lib.Seq.{sets, sets-eq, take-at, drop-at, take-length}
@@ -36,10 +35,10 @@ module _ (m : ℕ) (instructions regions held : List ℕ) (whole : Counted m ins
   head = magic ++ bytesOf (headerWords m n r (length held))
 
   code-bytes : length (bytesOf instructions) ≡ 8 * n
-  code-bytes = omega (arith, length-bytes instructions, whole .code)
+  code-bytes = omega (arith, length-bytes instructions, whole .whole-code)
 
   region-bytes : length (bytesOf regions) ≡ 12 * r
-  region-bytes = omega (arith, length-bytes regions, whole .places)
+  region-bytes = omega (arith, length-bytes regions, whole .whole-regions)
 
   -- where the parts end
   head-length : length head ≡ headerSize

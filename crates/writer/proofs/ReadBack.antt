@@ -1,29 +1,28 @@
 -- What the reader finds in an image that is made of lists.
-use Prim.Native.Nat.{ℕ, suc, _+_, _*_, _^_, _≤_, _<_}
-use mathlib.Core.Path.{_≡_, refl, sym, _∙_, ap}
-use mathlib.Core.Bool.{Bool, true, false}
-use mathlib.Core.List.{List, [], _∷_, _++_}
+use Prim.Native.Nat.{ℕ, _^_, _≤_, _<_}
+use mathlib.Core.Path.{_≡_, refl, _∙_, ap}
+use mathlib.Core.Bool.{true, false}
+use mathlib.Core.List.{List, _∷_, _++_}
 use native.Mathlib.Omega.{arith}
 use lib.ListN.{length, getD, length-append}
-use lib.Dec.{eqb}
 use borrow.Author.Tests.{le-leb, eq-eqb}
 use Rattle.image.specs.Words.{nthWord}
-use Rattle.image.specs.Format.{magic, headerSize, regionsAt, dataAt, sizeOf, fieldM, fieldN, fieldR, fieldD, codeOffset, regionOffset, dataOffset, magicOk, limitsOk, layoutOk, codePart, regionPart}
-use Rattle.image.specs.Refusals.{outOfLimits, refused, refusalWith, refusalOf}
-use Rattle.writer.specs.Words.{bytesOf, Words}
+use Rattle.image.specs.Format.{magic, headerSize, regionsAt, dataAt, sizeOf, fieldM, fieldN, fieldR, fieldD, codeOffset, regionOffset, dataOffset, magicOk, limitsOk, layoutOk}
+use Rattle.image.specs.Refusals.{outOfLimits, refused, refusalOf}
+use Rattle.writer.specs.Words.{bytesOf}
 use Rattle.writer.specs.Writing.{instructionCount, regionCount, headerWords, imageOf, entriesRefusal}
 use Rattle.writer.specs.Pieces.{Counted}
 use Rattle.writer.proofs.WordLaws.{length-bytes, word-at, word-front}
 use Rattle.writer.proofs.ImageLaws.{image-length, code-back, region-back}
 
 -- the header as words: the first four bytes are one, too
-abbrev pub magicWord : ℕ
+abbrev magicWord : ℕ
 magicWord = 0x314E5554
 
-abbrev pub eightWords : (m n r d : ℕ) → List ℕ
+abbrev eightWords : (m n r d : ℕ) → List ℕ
 eightWords m n r d = magicWord ∷ headerWords m n r d
 
-pub eight-bytes : (m n r d : ℕ) → magic ++ bytesOf (headerWords m n r d) ≡ bytesOf (eightWords m n r d)
+eight-bytes : (m n r d : ℕ) → magic ++ bytesOf (headerWords m n r d) ≡ bytesOf (eightWords m n r d)
 unfolding bytesOf
 eight-bytes m n r d = refl
 
@@ -66,13 +65,13 @@ module _ (m : ℕ) (instructions regions held : List ℕ) where
   magic-back = refl
 
   -- counts that a word can hold are found again
-  pub record Fields : Type 0 where
+  pub record HeaderBack : Type 0 where
     pub memory : fieldM made ≡ m
     pub code : fieldN made ≡ n
     pub regions-read : fieldR made ≡ r
     pub data-read : fieldD made ≡ d
 
-  pub fields-back : m < 2 ^ 32 → n < 2 ^ 32 → r < 2 ^ 32 → d < 2 ^ 32 → Fields
+  pub fields-back : m < 2 ^ 32 → n < 2 ^ 32 → r < 2 ^ 32 → d < 2 ^ 32 → HeaderBack
   fields-back hm hn hr hd =
       record {
         memory = header-word 1 (omega arith) hm;
@@ -82,13 +81,13 @@ module _ (m : ℕ) (instructions regions held : List ℕ) where
       }
 
   -- of counts out of limits the reader sees that first
-  pub refused-limits : Fields → limitsOk m n r d ≡ false → refusalOf made ≡ refused outOfLimits 0
+  pub refused-limits : HeaderBack → limitsOk m n r d ≡ false → refusalOf made ≡ refused outOfLimits 0
   unfolding refusalOf
   refused-limits f h = rw (f .memory, f .code, f .regions-read, f .data-read) (simp (le-leb headerSize (length made) long, magic-back, h))
 
   -- within them it finds what is wrong with the entries, and nothing else
   module _ (whole : Counted m instructions regions d) where
-    pub counted-fields : Fields
+    pub counted-fields : HeaderBack
     counted-fields =
         fields-back (omega (arith, whole .limits .memory)) (omega (arith, whole .limits .code)) (omega (arith, whole .limits .regions)) (omega (arith, whole .limits .held))
 

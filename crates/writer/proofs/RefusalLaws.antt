@@ -1,7 +1,7 @@
 -- What the writer's refusals say of the lists, and what it answers.
-use Prim.Native.Nat.{ℕ, _+_, _*_, _/_, _%_, _≤_}
-use mathlib.Core.Path.{_≡_, refl, sym, _∙_, ap}
-use mathlib.Core.Bool.{Bool, true, false, cond, _&&_}
+use Prim.Native.Nat.{ℕ, _+_, _%_, _≤_}
+use mathlib.Core.Path.{_≡_, refl, sym, _∙_}
+use mathlib.Core.Bool.{Bool, true, false, cond}
 use mathlib.Core.List.{List}
 use native.Mathlib.Omega.{arith}
 use lib.ListN.{length}
@@ -16,7 +16,7 @@ use Rattle.image.proofs.Tests.{all-three}
 use Rattle.image.proofs.Faults.{passed, both-passed}
 use Rattle.image.proofs.AcceptedImage.{limits-hold}
 use Rattle.writer.specs.Words.{bytesOf, instructionWords, regionWords}
-use Rattle.writer.specs.Writing.{noRoom, instructionCount, regionCount, imageOf, wholeEntries, countsOk, entriesRefusal, roomOk, writeRefusal, Written, written, notWritten, writeAnswer}
+use Rattle.writer.specs.Writing.{noRoom, instructionCount, regionCount, imageOf, wholeEntries, countsOk, entriesRefusal, roomOk, writeRefusal, written, notWritten, writeAnswer}
 use Rattle.writer.specs.Pieces.{Counted}
 use Rattle.writer.proofs.ImageLaws.{image-length, put-front}
 
@@ -28,7 +28,7 @@ module _ (m : ℕ) (instructions regions : List ℕ) (d : ℕ) where
       all-three (wholeEntries instructionWords instructions) (wholeEntries regionWords regions) (limitsOk m (instructionCount instructions) (regionCount regions) d) h in
       let code : length instructions % 2 ≡ 0 = eqb-true _ _ (e .0) in
       let places : length regions % 3 ≡ 0 = eqb-true _ _ (e .1) in
-      record { code = omega arith; places = omega arith; limits = limits-hold _ _ _ _ (e .2) }
+      record { whole-code = omega arith; whole-regions = omega arith; limits = limits-hold _ _ _ _ (e .2) }
 
   -- ---- the tests in their order
   pub counts-fail : (room : ℕ) → countsOk m instructions regions d ≡ false → writeRefusal m instructions regions d room ≡ refused outOfLimits 0

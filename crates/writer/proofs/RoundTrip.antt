@@ -1,31 +1,31 @@
 -- Reader and writer undo each other: the theorem of specs/RoundTrip.antt.
-use Prim.Native.Nat.{ℕ, suc, _+_, _*_, _/_, _%_, _^_, _≤_, _<_}
-use mathlib.Core.Path.{_≡_, refl, sym, _∙_, ap, subst}
+use Prim.Native.Nat.{ℕ, _+_, _*_, _/_, _%_, _^_, _≤_, _<_}
+use mathlib.Core.Path.{_≡_, refl, sym, _∙_, ap}
 use mathlib.Core.Bool.{Bool, true, false, _&&_}
-use mathlib.Core.List.{List, [], _∷_, _++_}
+use mathlib.Core.List.{List, _++_}
+use native.Mathlib.Nat.{mul-mod-right}
 use native.Mathlib.Omega.{arith}
-use lib.ListN.{length, getD, take, drop, length-drop}
-use lib.Dec.{eqb}
+use lib.ListN.{length, take, drop, length-drop}
 use lib.Seq.{take-append-seam, take-add, take-all, getD-drop}
-use borrow.Author.Tests.{le-leb, eqb-true, eq-eqb}
-use Rattle.image.specs.Words.{nthWord, Bytes}
-use Rattle.image.specs.Format.{magic, headerSize, regionsAt, dataAt, sizeOf, fieldM, fieldN, fieldR, fieldD, limitsOk, partOf, codePart, regionPart, dataPart}
+use borrow.Author.Tests.{le-leb, eq-eqb}
+use Rattle.image.specs.Words.{Bytes}
+use Rattle.image.specs.Format.{magic, headerSize, regionsAt, dataAt, sizeOf, fieldM, fieldN, fieldR, fieldD, limitsOk, codePart, regionPart, dataPart}
 use Rattle.image.specs.Rows.{fieldsAt}
-use Rattle.image.specs.Refusals.{accepted, unless, orElse, outOfLimits, refusalOf, headerOf, codeOf}
+use Rattle.image.specs.Refusals.{accepted, unless, orElse, refusalOf, headerOf, codeOf}
 use Rattle.image.specs.Accepted.{Accepted}
 use Rattle.image.specs.declared.Header.{Header}
 use Rattle.image.specs.declared.Refusal.{Refusal}
 use Rattle.image.proofs.Parts.{bytes-part}
-use Rattle.image.proofs.AcceptedImage.{accepted-image, image-accepted, accepted-header, accepted-code, header-refusal, limits-pass, code-length, region-length, data-length}
-use Rattle.writer.specs.Words.{bytesOf, firstWords, wordsOf, Words, instructionWords, regionWords, fieldsIn}
+use Rattle.image.proofs.AcceptedImage.{accepted-image, accepted-header, accepted-code, header-refusal, limits-pass, code-length, region-length, data-length}
+use Rattle.writer.specs.Words.{bytesOf, firstWords, wordsOf, Words, instructionWords, regionWords}
 use Rattle.writer.specs.Writing.{noRoom, instructionCount, regionCount, headerWords, imageOf, wholeEntries, countsOk, entriesRefusal, roomOk, writeRefusal, written, writeAnswer}
 use Rattle.writer.specs.Pieces.{Counted}
 use Rattle.writer.specs.RoundTrip.{HandsBack, RoundTrip}
-use Rattle.writer.proofs.WordLaws.{length-bytes, words-back, first-bytes, bytes-back, length-first, words-fit, word-drop}
+use Rattle.writer.proofs.WordLaws.{words-back, first-bytes, bytes-back, length-first, words-fit, word-drop}
 use Rattle.writer.proofs.EntryLaws.{fields-by-words}
-use Rattle.writer.proofs.ImageLaws.{image-length, code-back, region-back, data-back}
+use Rattle.writer.proofs.ImageLaws.{code-back, region-back, data-back}
 use Rattle.writer.proofs.RefusalLaws.{counts-hold, may-write, answer-accepted, answer-number}
-use Rattle.writer.proofs.ReadBack.{magicWord, eightWords, eight-bytes, fields-back, refused-limits, counted-fields, refused-entries}
+use Rattle.writer.proofs.ReadBack.{fields-back, refused-limits, counted-fields, refused-entries}
 
 -- ---- what is written reads back
 module _ (m : ℕ) (instructions regions held out : List ℕ) (bi : Words instructions) (br : Words regions) where
@@ -42,7 +42,7 @@ module _ (m : ℕ) (instructions regions held out : List ℕ) (bi : Words instru
       record {
         header = header;
         code-words = ap wordsOf code ∙ words-back instructions bi;
-        fields = λ i l. ap (λ (s : List ℕ). fieldsAt s i) code ∙ fields-by-words instructions bi i (omega (arith, whole .code));
+        fields = λ i l. ap (λ (s : List ℕ). fieldsAt s i) code ∙ fields-by-words instructions bi i (omega (arith, whole .whole-code));
         region-words = rw header (ap wordsOf (region-back m instructions regions held whole) ∙ words-back regions br);
         data-bytes = rw header (data-back m instructions regions held whole);
       }
@@ -177,19 +177,20 @@ module _ (s : List ℕ) (b : Bytes s) (m : ℕ) (instructions regions held : Lis
       let places : length regions ≡ regionWords * fieldR s = ap length same-regions ∙ region-words s b known in
       let filling : length held ≡ fieldD s = ap length same-data ∙ data-length s known in
       let l = known .limits in
-      let whole : wholeEntries instructionWords instructions && wholeEntries regionWords regions ≡ true = simp (eq-eqb _ _ (even (length instructions) (fieldN s) codes), eq-eqb _ _ (threes (length regions) (fieldR s) places)) in
+      let whole : wholeEntries instructionWords instructions && wholeEntries regionWords regions ≡ true = simp (eq-eqb _ _ (ap (λ (x : ℕ). x % instructionWords) codes ∙ mul-mod-right instructionWords (fieldN s)), eq-eqb _ _ (ap (λ (x : ℕ). x % regionWords) places ∙ mul-mod-right regionWords (fieldR s))) in
       let room : roomOk instructions regions (length held) (length out) ≡ true =
       le-leb (sizeOf (instructionCount instructions) (regionCount regions) (length held)) (length out) (omega (arith, known .layout .size)) in
       let none : writeRefusal m instructions regions (length held) (length out) ≡ accepted =
       alike m instructions regions held (length out) whole (omega (arith, same-m, l .memory)) (omega (arith, l .code)) (omega (arith, l .regions)) (omega (arith, l .held))
       ∙ rw (handed-image, none-refused, room) in
       answer-accepted m instructions regions held out (ap (λ (f : Refusal). f .number) none) ∙ ap (λ (t : List ℕ). written t out) handed-image
-    where
-      even : (x k : ℕ) → x ≡ 2 * k → x % 2 ≡ 0
-      even x k e = omega arith
 
-      threes : (x k : ℕ) → x ≡ 3 * k → x % 3 ≡ 0
-      threes x k e = omega arith
+-- what is handed back of an image
+same-fields : (s : List ℕ) (m m′ : ℕ) (instructions instructions′ regions regions′ held held′ : List ℕ)
+    → HandsBack s m instructions regions held → HandsBack s m′ instructions′ regions′ held′
+    → (m ≡ m′) × (instructions ≡ instructions′) × (regions ≡ regions′) × (held ≡ held′)
+same-fields s m m′ instructions instructions′ regions regions′ held held′ p q =
+    (ap (λ (h : Header). h .m) (sym (p .header) ∙ q .header), sym (p .code-words) ∙ q .code-words, sym (p .region-words) ∙ q .region-words, sym (p .data-bytes) ∙ q .data-bytes)
 
 pub round-trip : RoundTrip
 round-trip =
@@ -198,5 +199,6 @@ round-trip =
       handed-back = λ s b h. handed s b (accepted-image s h);
       writes-back = λ s b m instructions regions held out p h. written-again s b m instructions regions held p out h;
       one-image = λ s t b b′ m instructions regions held p q. sym (handed-image s b m instructions regions held p) ∙ handed-image t b′ m instructions regions held q;
+      one-reading = same-fields;
       refuses-alike = alike;
     }

@@ -1,5 +1,5 @@
 -- Words to bytes and back.
-use Prim.Native.Nat.{ℕ, zero, suc, _+_, _*_, _/_, _%_, _^_, _<_, _≤_}
+use Prim.Native.Nat.{ℕ, zero, suc, _+_, _*_, _/_, _^_, _<_, _≤_}
 use mathlib.Core.Path.{_≡_, refl, sym, _∙_, ap}
 use mathlib.Core.List.{List, [], _∷_, _++_}
 use native.Mathlib.Nat.{mod-eq-of-lt}
@@ -7,8 +7,9 @@ use native.Mathlib.Omega.{arith}
 use lib.ListN.{length, getD, take, drop, List·getD-append}
 use lib.Seq.{getD-append-add, getD-drop, take-append-add, take-all}
 use Rattle.rules.specs.Bytes.{byteOf, joined}
-use Rattle.rules.proofs.ByteLaws.{joined-lt, joined-bytes, byte-joined}
+use Rattle.rules.proofs.ByteLaws.{joined-bytes, byte-joined}
 use Rattle.image.specs.Words.{nthWord, Bytes}
+use Rattle.image.proofs.DecodedFits.{word-lt}
 use Rattle.writer.specs.Words.{wordBytes, bytesOf, firstWords, wordsOf, Words}
 
 pub length-bytes : (ws : List ℕ) → length (bytesOf ws) ≡ 4 * length ws
@@ -38,7 +39,7 @@ byte-at (w ∷ ws) (suc k) j h l =
     ap (λ (i : ℕ). getD (wordBytes w ++ bytesOf ws) i 0) e ∙ getD-append-add (wordBytes w) (bytesOf ws) (4 * k + j) 0 ∙ byte-at ws k j (omega arith) l
 
 -- four bytes in their places make the word
-pub four-joined : (s : List ℕ) (k w : ℕ) → ((j : ℕ) → j < 4 → getD s (4 * k + j) 0 ≡ byteOf j w) → w < 2 ^ 32 → nthWord s k ≡ w
+four-joined : (s : List ℕ) (k w : ℕ) → ((j : ℕ) → j < 4 → getD s (4 * k + j) 0 ≡ byteOf j w) → w < 2 ^ 32 → nthWord s k ≡ w
 unfolding nthWord joined
 four-joined s k w h l = rw (h 0 (omega arith), h 1 (omega arith), h 2 (omega arith), h 3 (omega arith)) (joined-bytes 4 w ∙ mod-eq-of-lt l)
 
@@ -88,9 +89,9 @@ length-first s (suc count) = ap suc (length-first (drop 4 s) count)
 
 -- words that are read from bytes fit
 pub words-fit : (s : List ℕ) (count : ℕ) → Bytes s → Words (firstWords s count)
-unfolding firstWords nthWord
+unfolding firstWords
 words-fit s zero b k = omega arith
-words-fit s (suc count) b zero = joined-lt 4 (λ j. getD s (4 * 0 + j) 0) (λ j l. b (4 * 0 + j))
+words-fit s (suc count) b zero = word-lt s 0 b
 words-fit s (suc count) b (suc k) = words-fit (drop 4 s) count (λ i. rw getD-drop (b (4 + i))) k
 
 -- ---- the words of a list that goes on

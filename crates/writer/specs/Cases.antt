@@ -64,7 +64,7 @@ smallest =
     ∷ 0 ∷ 0 ∷ 0 ∷ 0 ∷ 40 ∷ 0 ∷ 0 ∷ 0 ∷ 0 ∷ 0 ∷ 0 ∷ 0 ∷ 40 ∷ 0 ∷ 0 ∷ 0
     ∷ 0 ∷ 0 ∷ 0 ∷ 0 ∷ 0 ∷ 0 ∷ 0 ∷ 0 ∷ []
 
--- one instruction of M 4,096 and no region, with these eight bytes
+-- an image of M 4,096 with one instruction, these eight bytes, and no region
 abbrev single : List ℕ → List ℕ
 single row =
     0x54 ∷ 0x55 ∷ 0x4E ∷ 0x31 ∷ 0 ∷ 0x10 ∷ 0 ∷ 0 ∷ 1 ∷ 0 ∷ 0 ∷ 0 ∷ 32 ∷ 0 ∷ 0 ∷ 0
@@ -75,8 +75,8 @@ abbrev stop : List ℕ
 stop = 0 ∷ 0 ∷ []
 
 -- ---- the cases
--- written: with room to the byte, and with bytes past the image; op is the low byte of the first word (MOV 2, 5), a word has its low byte first (MOV 14, 0x12345678);
--- register 15 may be stored (ST32 15 at register 1); CLOSE 0 to 4,096
+-- written: with room to the byte, and with bytes past the image; a region that ends at M; op is the low byte of the first word (MOV 2, 5), a word has its low byte first (MOV 14, 0x12345678);
+-- register 15 may be stored (ST32 15, ST16 15 at register 1); JNZ to the last instruction; CLOSE 0 to 4,096
 abbrev pub writtenCases : List WriteCase
 writtenCases =
     writes 16 exampleCode exampleRegions [] example 76 0
@@ -84,9 +84,12 @@ writtenCases =
     ∷ writes 8 code regions bytes base 95 1
     ∷ writes 1 stop [] [] smallest 40 0
     ∷ writes 1 stop [] [] smallest 40 2
+    ∷ writes 8 code (set regions 7 2) (bytes ++ (0xB2 ∷ [])) (set (set base 84 2) 24 4 ++ (0xB2 ∷ [])) 96 0
     ∷ writes 4096 (0xFF000201 ∷ 5 ∷ []) [] [] (single (1 ∷ 2 ∷ 0 ∷ 0xFF ∷ 5 ∷ 0 ∷ 0 ∷ 0 ∷ [])) 40 0
     ∷ writes 4096 (0xFF000E01 ∷ 0x12345678 ∷ []) [] [] (single (1 ∷ 14 ∷ 0 ∷ 0xFF ∷ 0x78 ∷ 0x56 ∷ 0x34 ∷ 0x12 ∷ [])) 40 0
     ∷ writes 4096 (0x00010F10 ∷ 0xFFFFFFFF ∷ []) [] [] (single (16 ∷ 15 ∷ 1 ∷ 0 ∷ 0xFF ∷ 0xFF ∷ 0xFF ∷ 0xFF ∷ [])) 40 0
+    ∷ writes 4096 (0x00010F18 ∷ 6 ∷ []) [] [] (single (24 ∷ 15 ∷ 1 ∷ 0 ∷ 6 ∷ 0 ∷ 0 ∷ 0 ∷ [])) 40 0
+    ∷ writes 4096 (0x00010011 ∷ 0 ∷ []) [] [] (single (17 ∷ 0 ∷ 1 ∷ 0 ∷ 0 ∷ 0 ∷ 0 ∷ 0 ∷ [])) 40 0
     ∷ writes 4096 (20 ∷ 0x10000000 ∷ []) [] [] (single (20 ∷ 0 ∷ 0 ∷ 0 ∷ 0 ∷ 0 ∷ 0 ∷ 0x10 ∷ [])) 40 0
     ∷ []
 
@@ -120,15 +123,18 @@ partCases =
     ∷ refuses 16 exampleCode (8 ∷ []) [] 99 3 0
     ∷ refuses 16 exampleCode (8 ∷ 4 ∷ []) [] 99 3 0
     ∷ refuses 16 exampleCode (8 ∷ 4 ∷ 2 ∷ 12 ∷ []) [] 99 3 0
+    ∷ refuses 8 (code ++ (25 ∷ [])) regions bytes 99 3 0
+    ∷ refuses 16 (0 ∷ 0 ∷ 0 ∷ []) (8 ∷ 4 ∷ []) [] 99 3 0
     ∷ []
 
--- 5: an op that there is not, two of which the lower counts, STOP with d, register 15 as d, JNZ past the last, OPEN past M, MOV with a
+-- 5: an op that there is not, two of which the lower counts, STOP with d, register 15 as d (MOV, LDS16), JNZ past the last, OPEN past M, MOV with a
 abbrev pub instructionCases : List WriteCase
 instructionCases =
     refuses 8 badCode regions bytes 95 5 1
     ∷ refuses 8 (set badCode 4 25) regions bytes 95 5 1
     ∷ refuses 8 (set code 4 0x00000100) regions bytes 95 5 2
     ∷ refuses 8 (set code 0 0xFF000F01) regions bytes 95 5 0
+    ∷ refuses 8 (set code 2 0x00010F17) regions bytes 95 5 1
     ∷ refuses 8 (set (set code 2 0x00010011) 3 3) regions bytes 95 5 1
     ∷ refuses 4096 (19 ∷ 0x10000001 ∷ []) [] [] 40 5 0
     ∷ refuses 8 (set code 0 0xFF010101) regions bytes 95 5 0
@@ -145,18 +151,18 @@ regionCases =
     ∷ refuses 8 code (set badRegions 8 3) bytes 95 6 1
     ∷ []
 
--- 7: a byte too few, a byte too many
+-- 7: a byte too few, a byte too many, a byte and no region
 abbrev pub sumCases : List WriteCase
 sumCases =
     refuses 8 code regions fewBytes 95 7 0
     ∷ refuses 8 code regions (0 ∷ bytes) 99 7 0
+    ∷ refuses 1 stop [] (0 ∷ []) 41 7 0
     ∷ []
 
 -- two and more at once: the lower number
 abbrev pub pairCases : List WriteCase
 pairCases =
     refuses 0 badCode badRegions fewBytes 0 3 0
-    ∷ refuses 8 (code ++ (25 ∷ [])) regions bytes 99 3 0
     ∷ refuses 8 badCode (regions ++ (7 ∷ [])) bytes 0 3 0
     ∷ refuses 8 badCode badRegions bytes 95 5 1
     ∷ refuses 8 badCode regions fewBytes 95 5 1

@@ -9,6 +9,6 @@ use Rattle.writer.specs.Writing.{instructionCount, regionCount}
 
 -- whole instructions, whole regions and d bytes of data, within the limits
 pub record Counted (m : ℕ) (instructions regions : List ℕ) (d : ℕ) : Type 0 where
-  pub code : length instructions ≡ instructionWords * instructionCount instructions
-  pub places : length regions ≡ regionWords * regionCount regions
+  pub whole-code : length instructions ≡ instructionWords * instructionCount instructions
+  pub whole-regions : length regions ≡ regionWords * regionCount regions
   pub limits : Limits m (instructionCount instructions) (regionCount regions) d

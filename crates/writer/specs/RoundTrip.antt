@@ -1,5 +1,5 @@
 -- Reader and writer undo each other (02, L2). `round-trip` in proofs/RoundTrip.antt is the proof.
-use Prim.Native.Nat.{ℕ, _+_, _*_, _^_, _<_, _≤_}
+use Prim.Native.Nat.{ℕ, _^_, _<_, _≤_}
 use mathlib.Core.Path.{_≡_}
 use mathlib.Core.Bool.{true, _&&_}
 use mathlib.Core.List.{List}
@@ -36,6 +36,10 @@ pub record RoundTrip : Type 0 where
   pub one-image : (s t : List ℕ) → Bytes s → Bytes t → (m : ℕ) (instructions regions held : List ℕ)
       → HandsBack s m instructions regions held → HandsBack t m instructions regions held
       → s ≡ t
+  -- and one image has one set of fields
+  pub one-reading : (s : List ℕ) (m m′ : ℕ) (instructions instructions′ regions regions′ held held′ : List ℕ)
+      → HandsBack s m instructions regions held → HandsBack s m′ instructions′ regions′ held′
+      → (m ≡ m′) × (instructions ≡ instructions′) × (regions ≡ regions′) × (held ≡ held′)
   -- the writer refuses whole lists, whose counts a header can hold, as the reader refuses their image, and then by 12
   pub refuses-alike : (m : ℕ) (instructions regions held : List ℕ) (room : ℕ)
       → wholeEntries instructionWords instructions && wholeEntries regionWords regions ≡ true

@@ -20,7 +20,7 @@ unfoldable pub firstWords : List ℕ → ℕ → List ℕ
 firstWords s zero = []
 firstWords s (suc count) = nthWord s 0 ∷ firstWords (drop 4 s) count
 
--- all of them
+-- all its whole words
 abbrev pub wordsOf : List ℕ → List ℕ
 wordsOf s = firstWords s (length s / 4)
 

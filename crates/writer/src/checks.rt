@@ -22,22 +22,22 @@ ghost use Rattle.writer.specs.Words.{bytesOf, instructionWords, regionWo
 ghost use Rattle.writer.specs.Writing.{instructionCount, regionCount, countsOk, writeRefusal};
 
 // The words of an instruction and of a region.
-const INSTRUCTION: usize = 2;
+const INSTRUCTION_WORDS: usize = 2;
 
-const REGION: usize = 3;
+const REGION_WORDS: usize = 3;
 
 // How many instructions a list holds.
 pub fn instruction_count(instructions: &[u32]) -> usize
     ensures { λ r. ⌜ r ≡ instructionCount (now (instructions .entry)) ⌝ }
 {
-    instructions.len() / INSTRUCTION
+    instructions.len() / INSTRUCTION_WORDS
 }
 
 // How many regions.
 pub fn region_count(regions: &[u32]) -> usize
     ensures { λ r. ⌜ r ≡ regionCount (now (regions .entry)) ⌝ }
 {
-    regions.len() / REGION
+    regions.len() / REGION_WORDS
 }
 
 // Whether the lists have whole entries, and M, N, R and D keep their limits.
@@ -46,8 +46,8 @@ fn counts_ok(m: u32, instructions: &[u32], regions: &[u32], d: usize) -> bool
 {
     let n = instruction_count(instructions);
     let r = region_count(regions);
-    (instructions.len() % INSTRUCTION == 0)
-        & (regions.len() % REGION == 0)
+    (instructions.len() % INSTRUCTION_WORDS == 0)
+        & (regions.len() % REGION_WORDS == 0)
         & format::limits_ok(m as usize, n, r, d)
 }
 
@@ -56,7 +56,7 @@ fn instruction_ok(instructions: &[u32], i: usize, n: u32, m: u32) -> bool
     requires { ⌜ instructionWords * i + instructionWords ≤ length (now instructions) ⌝ }
     ensures { λ t. ⌜ t ≡ instructionOk (bytesOf (now (instructions .entry))) n m i ⌝ }
 {
-    let at = INSTRUCTION * i;
+    let at = INSTRUCTION_WORDS * i;
     let mut row = [0; format::INSTRUCTION];
     bytes::put_word(&mut row, 0, instructions[at]);
     bytes::put_word(&mut row, WORD, instructions[at + 1]);
@@ -87,7 +87,7 @@ fn region_in(regions: &[u32], i: usize) -> Region
     requires { ⌜ regionWords * i + regionWords ≤ length (now regions) ⌝ }
     ensures { λ t. ⌜ t ≡ regionAt (bytesOf (now (regions .entry))) i ⌝ }
 {
-    let at = REGION * i;
+    let at = REGION_WORDS * i;
     Region {
         start: regions[at],
         size: regions[at + 1],

@@ -18,8 +18,8 @@ pub struct Wrote {
 }
 
 // Writes the image of m bytes of memory, instructions of two words each, regions of three words each
-// and the data of the filled ones to the front of a buffer. Bytes past it stay; a refusal touches
-// nothing.
+// and the data of the filled ones to the front of a buffer. Bytes past the image stay; a refusal
+// touches nothing.
 pub fn write(m: u32, instructions: &[u32], regions: &[u32], data: &[u8], out: &mut [u8]) -> Wrote
     ensures { λ r. ⌜ WritePromise m (now (instructions .entry)) (now (regions .entry)) (now («data» .entry)) (now (out .entry)) r (now (out .exit)) ⌝ }
 {

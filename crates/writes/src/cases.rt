@@ -1,4 +1,5 @@
-// What is written: document 01's example, and the largest image with and without faults.
+// What is written: document 01's example, the largest image with and without faults, counts at their
+// limits, parts of entries.
 use super::show::bytes;
 use super::show::changed;
 use super::show::number;

@@ -40,14 +40,14 @@ check-spec =
     (λ c. let u : tie.Else1 = search in omega (arith, counts-hold _ _ _ _ (counted u) .limits .code))
     (λ c κs. search needs)
     (λ c. let u : tie.Else1 = search in omega (arith, counts-hold _ _ _ _ (counted u) .limits .regions))
-    (λ c κs. let u : tie.Else1 = search in omega (arith, counts-hold _ _ _ _ (counted u) .code))
+    (λ c κs. let u : tie.Else1 = search in omega (arith, counts-hold _ _ _ _ (counted u) .whole-code))
     (λ c.
     let u : tie.Else1 = search in
     let n : tie.After-instruction-count = search in
     let r : tie.After-region-count = search in
     let i : tie.After-check-instructions = search in
     sym (write-tests _ _ _ _ _ (counted u) (n .instruction-count .ensures) (r .region-count .ensures) (i .check-instructions .ensures) refl refl refl ∙ simp (ne-eqb _ _ (c .if2 .taken))))
-    (λ c κs. let u : tie.Else1 = search in omega (arith, counts-hold _ _ _ _ (counted u) .places))
+    (λ c κs. let u : tie.Else1 = search in omega (arith, counts-hold _ _ _ _ (counted u) .whole-regions))
     (λ c.
     let u : tie.Else1 = search in
     let n : tie.After-instruction-count = search in
@@ -56,7 +56,7 @@ check-spec =
     let if2 : tie.Else2 = search in
     let g : tie.After-check-regions = search in
     sym (write-tests _ _ _ _ _ (counted u) (n .instruction-count .ensures) (r .region-count .ensures) (i .check-instructions .ensures) (g .check-regions .ensures) refl refl ∙ simp (if2 .if2 .left, ne-eqb _ _ (c .if3 .taken))))
-    (λ c κs. let u : tie.Else1 = search in omega (arith, counts-hold _ _ _ _ (counted u) .places))
+    (λ c κs. let u : tie.Else1 = search in omega (arith, counts-hold _ _ _ _ (counted u) .whole-regions))
     (λ c κs. search needs)
     (λ c. let u : tie.Else1 = search in omega (arith, counts-hold _ _ _ _ (counted u) .limits))
     (λ c κs. search needs)

@@ -4,9 +4,10 @@ use Prim.Native.Nat.{_-_, _≤_}
 use mathlib.Core.Path.{_≡_, refl, sym, ap, _∙_}
 use Rattle.image.specs.Regions.{endOf, endBefore, regionOk}
 use Rattle.image.specs.Refusals.{badRegion, firstFault, regionRefusal}
+use Rattle.image.proofs.RegionLaws.{end-next}
 use Rattle.image.proofs.Faults.{fault-start, fault-step, fault-here, fault-end}
 use Rattle.writer.specs.Words.{bytesOf}
-use Rattle.writer.proofs.EntryLaws.{region-kept, end-next}
+use Rattle.writer.proofs.EntryLaws.{region-kept}
 use Rattle.writer.proofs.checks.check_regions.Statement.{statement}
 use Rattle.writer.proofs.checks.check_regions.Tie as tie
 

@@ -1,6 +1,5 @@
 use borrow.Author.Needs.{needs}
-use Prim.Native.Nat.{_-_, _≤_}
-use lib.ListN.{length}
+use Prim.Native.Nat.{_-_}
 use Rattle.writes.proofs.cases.all_filled.Statement.{statement}
 use Rattle.writes.proofs.cases.all_filled.Tie as tie
 
