@@ -1,12 +1,39 @@
-//! Writes the interpreter once more for each planted fault of faults.txt, with that fault in it.
+//! Writes the interpreter once more for each planted fault of faults.txt, and the writer, with the
+//! interpreter whose rules it shares, for each of writer_faults.txt, with that fault in them.
 
 use std::path::Path;
 use std::{env, fs};
 
-const INTERPRETER: &str = "../src/interpreter.rs";
-const FAULTS: &str = "../faults.txt";
+/// A list of faults, what they are edits of, and what is tried of each copy.
+struct Plants {
+    faults: &'static str,
+    /// Files of src, which see each other as they do there.
+    sources: &'static [&'static str],
+    /// The constant that lists the copies, and the type of what is tried.
+    list: &'static str,
+    kind: &'static str,
+    /// What is tried, in one of the sources.
+    tried: &'static str,
+}
 
-/// Lines of the interpreter and what stands in their place.
+const PLANTS: [Plants; 2] = [
+    Plants {
+        faults: "../faults.txt",
+        sources: &["interpreter"],
+        list: "FAULTS",
+        kind: "Engine",
+        tried: "interpreter::ENGINE",
+    },
+    Plants {
+        faults: "../writer_faults.txt",
+        sources: &["writer", "interpreter"],
+        list: "WRITER_FAULTS",
+        kind: "Writer",
+        tried: "writer::WRITER",
+    },
+];
+
+/// Lines of a source and what stands in their place.
 #[derive(Default)]
 struct Edit {
     old: Vec<String>,
@@ -14,22 +41,26 @@ struct Edit {
 }
 
 impl Edit {
-    /// The lines with the old ones, which must be there exactly once, replaced.
-    fn applied<'a>(&'a self, lines: &[&'a str], name: &str) -> Vec<&'a str> {
-        let count = self.old.len();
-        assert!(count > 0, "{FAULTS}: fault {name} has no old lines");
+    /// Where the old lines are among these.
+    fn places(&self, lines: &[&str]) -> Vec<usize> {
         let is_old =
             |part: &[&str]| part.iter().zip(&self.old).all(|(line, old)| line.trim() == old);
-        let parts = lines.windows(count).enumerate();
-        let places: Vec<usize> = parts.filter(|(_, part)| is_old(part)).map(|(at, _)| at).collect();
-        let [at] = places[..] else {
-            let (old, found) = (&self.old, places.len());
-            panic!(
-                "{FAULTS}: fault {name}: {old:?} occur {found} times in {INTERPRETER}, not once"
-            );
+        let parts = lines.windows(self.old.len()).enumerate();
+        parts.filter(|(_, part)| is_old(part)).map(|(at, _)| at).collect()
+    }
+
+    /// Replaces the old lines, which must be in the sources exactly once.
+    fn apply<'a>(&'a self, sources: &mut [Vec<&'a str>], fault: &str) {
+        assert!(!self.old.is_empty(), "fault {fault} has no old lines");
+        let all = sources.iter().enumerate();
+        let found: Vec<(usize, usize)> = all
+            .flat_map(|(source, lines)| self.places(lines).into_iter().map(move |at| (source, at)))
+            .collect();
+        let [(source, at)] = found[..] else {
+            panic!("fault {fault}: {:?} occur {} times, not once", self.old, found.len());
         };
-        let new: Vec<&str> = self.new.iter().map(String::as_str).collect();
-        [&lines[..at], &new, &lines[at + count..]].concat()
+        let new = self.new.iter().map(String::as_str);
+        sources[source].splice(at..at + self.old.len(), new);
     }
 }
 
@@ -44,7 +75,7 @@ impl Fault {
     fn of_block(block: &[&str]) -> Fault {
         let title = block[0].strip_prefix("fault ").and_then(|rest| rest.split_once(':'));
         let Some((name, sentence)) = title else {
-            panic!("{FAULTS}: `{}` is not `fault NAME: sentence`", block[0]);
+            panic!("`{}` is not `fault NAME: sentence`", block[0]);
         };
         let (name, sentence) = (name.trim().to_string(), sentence.trim().to_string());
         let mut edits = vec![Edit::default()];
@@ -55,16 +86,18 @@ impl Fault {
             match (line.split_at_checked(1), edits.last_mut()) {
                 (Some(("-", text)), Some(edit)) => edit.old.push(text.trim().into()),
                 (Some(("+", text)), Some(edit)) => edit.new.push(text.trim().into()),
-                _ => panic!("{FAULTS}: fault {name}: what is `{line}`?"),
+                _ => panic!("fault {name}: what is `{line}`?"),
             }
         }
         Fault { name, sentence, edits }
     }
 
-    fn planted(&self, source: &[&str]) -> String {
-        let lines = source.to_vec();
-        let lines = self.edits.iter().fold(lines, |lines, edit| edit.applied(&lines, &self.name));
-        lines.join("\n")
+    /// The sources with the fault in them.
+    fn planted(&self, sources: &[String]) -> Vec<String> {
+        let mut sources: Vec<Vec<&str>> =
+            sources.iter().map(|source| source.lines().collect()).collect();
+        self.edits.iter().for_each(|edit| edit.apply(&mut sources, &self.name));
+        sources.iter().map(|lines| lines.join("\n")).collect()
     }
 }
 
@@ -84,21 +117,34 @@ fn write(path: &Path, text: &str) {
     fs::write(path, text).unwrap_or_else(|error| panic!("{}: {error}", path.display()));
 }
 
+impl Plants {
+    /// A module for each fault, its sources inside, and the list of what is tried of each.
+    fn planted(&self, folder: &Path) -> String {
+        let texts = self.sources.iter().map(|source| text_of(&format!("../src/{source}.rs")));
+        let texts: Vec<String> = texts.collect();
+        let Plants { list, kind, tried, .. } = self;
+        let (mut modules, mut entries) = (String::new(), String::new());
+        for (k, fault) in faults(&text_of(self.faults)).iter().enumerate() {
+            let module = format!("{}_{k}", list.to_lowercase());
+            modules += &format!("#[allow(warnings)]\nmod {module} {{\n");
+            for (source, text) in self.sources.iter().zip(fault.planted(&texts)) {
+                let path = folder.join(format!("{module}_{source}.rs"));
+                write(&path, &text);
+                modules += &format!("    #[path = {path:?}]\n    pub mod {source};\n");
+            }
+            modules += "}\n";
+            let (name, sentence) = (&fault.name, &fault.sentence);
+            let copy = format!("{kind} {{ name: {name:?}, ..{module}::{tried} }}");
+            entries += &format!("    ({name:?}, {sentence:?}, {copy}),\n");
+        }
+        modules + &format!("pub const {list}: &[(&str, &str, {kind})] = &[\n{entries}];\n")
+    }
+}
+
 fn main() {
     println!("cargo:rerun-if-changed=build.rs");
     let folder = env::var("OUT_DIR").expect("cargo sets OUT_DIR");
     let folder = Path::new(&folder);
-    let source = text_of(INTERPRETER);
-    let source: Vec<&str> = source.lines().collect();
-    let (mut modules, mut entries) = (String::new(), String::new());
-    for (k, fault) in faults(&text_of(FAULTS)).iter().enumerate() {
-        let path = folder.join(format!("fault_{k}.rs"));
-        write(&path, &fault.planted(&source));
-        modules += &format!("#[allow(warnings)]\n#[path = {path:?}]\nmod fault_{k};\n");
-        let (name, sentence) = (&fault.name, &fault.sentence);
-        let engine = format!("Engine {{ name: {name:?}, ..fault_{k}::ENGINE }}");
-        entries += &format!("    ({name:?}, {sentence:?}, {engine}),\n");
-    }
-    let list = format!("pub const FAULTS: &[(&str, &str, Engine)] = &[\n{entries}];\n");
-    write(&folder.join("faults.rs"), &(modules + &list));
+    let planted: String = PLANTS.iter().map(|plants| plants.planted(folder)).collect();
+    write(&folder.join("faults.rs"), &planted);
 }

@@ -5,7 +5,6 @@ mod case;
 mod counted;
 mod drawn;
 mod fillings;
-mod layout;
 mod sorts;
 mod step;
 mod tally;
@@ -14,6 +13,7 @@ pub mod teeth;
 use std::fmt;
 
 use crate::images::op;
+use crate::layout::name_of;
 
 pub use case::{Case, Cases};
 pub use fillings::{Filling, Operands};
@@ -80,7 +80,7 @@ impl fmt::Display for Failure {
 /// The op and its operands, in words.
 fn described(case: &Case) -> String {
     let Operands { x, v, y, w } = case.operands;
-    let name = layout::name_of(case.row.op);
+    let name = name_of(case.row.op);
     format!("{name}, x {x:#x}, v {v:#x}, y {y:#x}, w {w:#x}")
 }
 

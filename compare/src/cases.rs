@@ -4,6 +4,7 @@ use crate::clean;
 use crate::damage;
 use crate::edges;
 use crate::images::Image;
+use crate::numbering::Kind;
 use crate::prng::Prng;
 use crate::programs::{self, Maker};
 use crate::types::State;
@@ -251,14 +252,7 @@ fn of_program(prng: &mut Prng, maker: Maker) -> Case {
     }
 }
 
-/// A kind of random case: its name, how often it is drawn, and its maker.
-pub struct Kind {
-    pub name: &'static str,
-    pub share: u32,
-    pub make: fn(&mut Prng) -> Case,
-}
-
-pub const KINDS: [Kind; 17] = [
+pub const KINDS: [Kind<Case>; 17] = [
     Kind { name: "straight arithmetic", share: 14, make: |p| of_program(p, programs::straight) },
     Kind { name: "sums one by one", share: 8, make: |p| one_by_one(p, programs::sums) },
     Kind { name: "half words one by one", share: 8, make: half_words_one_by_one },
@@ -292,16 +286,4 @@ fn damaged(prng: &mut Prng, parts: u32, whole: u32) -> Case {
 fn of_made(prng: &mut Prng, maker: fn(&mut Prng) -> (Vec<u8>, u32)) -> Case {
     let bytes = maker(prng);
     of_bytes(prng, bytes)
-}
-
-/// Draws one of `KINDS` by its share.
-pub fn draw_kind(prng: &mut Prng) -> usize {
-    let mut left = prng.below(KINDS.iter().map(|kind| kind.share).sum());
-    for (place, kind) in KINDS.iter().enumerate() {
-        if left < kind.share {
-            return place;
-        }
-        left -= kind.share;
-    }
-    0
 }

@@ -1,4 +1,4 @@
-//! The compiled checker as an engine, through the binding for Rust.
+//! The compiled checker as an engine, and its writer, through the binding for Rust.
 
 use uviktalik::numbers::{
     ACCEPTED, HEADER_WORDS, REGISTERS, STATE_INDEX, STATE_OUTPUTS, STATE_REGS, STATE_REGS_V,
@@ -6,9 +6,10 @@ use uviktalik::numbers::{
 };
 use uviktalik::raw;
 
-use crate::types::{Began, Buffers, Engine, Header, Lists, Ran, State};
+use crate::types::{Began, Buffers, Engine, Fields, Header, Lists, Ran, State, Writer, Written};
 
 pub const ENGINE: Engine = Engine { name: "checker", read, begin, run };
+pub const WRITER: Writer = Writer { name: "checker", write };
 
 /// What lies in a place before a call that is to write it, so that one which is left alone is seen.
 const STALE: u32 = 0xA5A5_A5A5;
@@ -76,4 +77,12 @@ pub fn run(image: &[u8], state: &State, buffers: Buffers, lists: Lists, budget: 
         reason: reason.into(),
         state: state_in(words),
     }
+}
+
+pub fn write(fields: &Fields, out: &mut [u8]) -> Written {
+    let &Fields { m, instructions, regions, data } = fields;
+    let fields = uviktalik::Fields { m, instructions, regions, data };
+    let (mut size, mut index) = (usize::MAX, usize::MAX);
+    let number = raw::write(&fields, out, &mut size, &mut index);
+    Written { number: number.into(), index, size }
 }

@@ -5,6 +5,7 @@ use std::fmt;
 use crate::calls::{self, Answer, CodePart};
 use crate::cases::{Call, Case, Desk};
 use crate::coverage::Coverage;
+use crate::differ::Differ;
 use crate::frame::Frame;
 use crate::images::hex;
 use crate::plan::Plan;
@@ -102,38 +103,8 @@ fn call_words(case: &Case, place: usize, before: &State) -> String {
     }
 }
 
-/// Looks for the first difference; once it is found the rest is passed over.
-struct Differ {
-    names: [&'static str; 2],
-    found: Option<String>,
-}
-
+/// The answers of reading, beginning and running, and all that is lent to them.
 impl Differ {
-    fn text(&mut self, what: &str, left: String, right: String) {
-        if self.found.is_none() && left != right {
-            let [first, second] = self.names;
-            self.found = Some(format!("{what}: {first} {left}, {second} {right}"));
-        }
-    }
-
-    fn word(&mut self, what: &str, left: u32, right: u32) {
-        self.text(what, format!("{left:#x}"), format!("{right:#x}"));
-    }
-
-    /// `name` says what the place of a word means.
-    fn words<T: Copy + Into<u32>>(
-        &mut self,
-        name: impl Fn(usize) -> String,
-        left: &[T],
-        right: &[T],
-    ) {
-        for (place, (&left, &right)) in left.iter().zip(right).enumerate() {
-            if self.found.is_none() {
-                self.word(&name(place), left.into(), right.into());
-            }
-        }
-    }
-
     fn header(&mut self, left: &Header, right: &Header) {
         self.word("refusal number", left.number, right.number);
         self.word("refusal index", left.index, right.index);
@@ -207,8 +178,8 @@ impl Differ {
 }
 
 fn described(names: [&'static str; 2], answers: &[Answer; 2], desks: &[Desk; 2]) -> String {
-    let mut differ = Differ { names, found: None };
+    let mut differ = Differ::new(names);
     differ.answers(answers);
     differ.desks(desks);
-    differ.found.unwrap_or_else(|| "a difference without a name".to_string())
+    differ.told()
 }

@@ -44,7 +44,7 @@ pub struct Coverage {
 }
 
 /// What is counted, such as "EQ, drawn", with each sort and its count.
-type Counts = (String, Vec<(&'static str, u64)>);
+pub type Counts = (String, Vec<(&'static str, u64)>);
 
 pub fn add(to: &mut [u64], from: &[u64]) {
     for (to, from) in to.iter_mut().zip(from) {
@@ -53,7 +53,7 @@ pub fn add(to: &mut [u64], from: &[u64]) {
 }
 
 /// Each name with its count.
-fn pairs<T: Display>(counts: impl IntoIterator<Item = (T, u64)>) -> String {
+pub fn pairs<T: Display>(counts: impl IntoIterator<Item = (T, u64)>) -> String {
     let pairs = counts.into_iter().map(|(name, count)| format!("{name} {count}"));
     pairs.collect::<Vec<_>>().join(", ")
 }

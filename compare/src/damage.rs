@@ -56,7 +56,7 @@ fn damage_region(prng: &mut Prng, region: &mut Region) {
 }
 
 /// Breaks a part from which sizes and offsets still follow.
-fn damage_parts(prng: &mut Prng, image: &mut Image) {
+pub fn damage_parts(prng: &mut Prng, image: &mut Image) {
     match prng.below(8) {
         0..=3 => {
             let place = prng.place(image.rows.len());
@@ -92,12 +92,18 @@ fn damage_bytes(prng: &mut Prng, bytes: &mut Vec<u8>) {
     }
 }
 
-/// An image's bytes and the M it was made for, with so many damages to its parts and its bytes.
-pub fn damaged(prng: &mut Prng, parts: u32, whole: u32) -> (Vec<u8>, u32) {
+/// An image with so many damages to its parts.
+pub fn damaged_parts(prng: &mut Prng, parts: u32) -> Image {
     let mut image = small(prng);
     for _ in 0..parts {
         damage_parts(prng, &mut image);
     }
+    image
+}
+
+/// An image's bytes and the M it was made for, with so many damages to its parts and its bytes.
+pub fn damaged(prng: &mut Prng, parts: u32, whole: u32) -> (Vec<u8>, u32) {
+    let image = damaged_parts(prng, parts);
     let mut bytes = image.bytes();
     for _ in 0..whole {
         damage_bytes(prng, &mut bytes);
@@ -115,13 +121,19 @@ pub fn name_frame(prng: &mut Prng, image: &mut Image) -> u32 {
     place as u32
 }
 
-/// An image that names register 15 so, half of them damaged before; its bytes and M.
-pub fn frame_named(prng: &mut Prng) -> (Vec<u8>, u32) {
+/// An image that names register 15 so, half of them damaged before.
+pub fn frame_named_parts(prng: &mut Prng) -> Image {
     let mut image = small(prng);
     if prng.one_in(2) {
         damage_parts(prng, &mut image);
     }
     name_frame(prng, &mut image);
+    image
+}
+
+/// The bytes and M of such an image.
+pub fn frame_named(prng: &mut Prng) -> (Vec<u8>, u32) {
+    let image = frame_named_parts(prng);
     (image.bytes(), image.m)
 }
 

@@ -1,5 +1,6 @@
 //! Program images built from their parts, as document 01 lays them out.
 
+use crate::parts::Parts;
 use crate::prng::Prng;
 
 pub const MAGIC: [u8; 4] = [0x54, 0x55, 0x4E, 0x31];
@@ -120,6 +121,11 @@ impl Row {
     pub const fn range(op: u8, start: u32, length: u32) -> Row {
         Row::access(op, 0, 0, start | (length << 16))
     }
+
+    /// Its words as writing takes them: op in the low byte of the first (document 02, L2).
+    pub const fn words(self) -> [u32; 2] {
+        [u32::from_le_bytes([self.op, self.d, self.a, self.b]), self.imm]
+    }
 }
 
 pub const FILLED: u32 = 1;
@@ -130,6 +136,12 @@ pub struct Region {
     pub start: u32,
     pub length: u32,
     pub kind: u32,
+}
+
+impl Region {
+    pub const fn words(self) -> [u32; 3] {
+        [self.start, self.length, self.kind]
+    }
 }
 
 /// An image in parts; the sizes and offsets in its bytes follow from the parts.
@@ -149,26 +161,17 @@ impl Image {
         Image { m, rows, regions, data }
     }
 
+    pub fn parts(&self) -> Parts {
+        Parts {
+            m: self.m,
+            instructions: self.rows.iter().flat_map(|row| row.words()).collect(),
+            regions: self.regions.iter().flat_map(|region| region.words()).collect(),
+            data: self.data.clone(),
+        }
+    }
+
     pub fn bytes(&self) -> Vec<u8> {
-        let [n, r, d] = [self.rows.len(), self.regions.len(), self.data.len()].map(|c| c as u32);
-        let at_rows = HEADER_BYTES as u32;
-        let at_regions = at_rows + ROW_BYTES as u32 * n;
-        let at_data = at_regions + REGION_BYTES as u32 * r;
-        let mut bytes = MAGIC.to_vec();
-        for word in [self.m, n, at_rows, r, at_regions, d, at_data] {
-            bytes.extend(word.to_le_bytes());
-        }
-        for row in &self.rows {
-            bytes.extend([row.op, row.d, row.a, row.b]);
-            bytes.extend(row.imm.to_le_bytes());
-        }
-        for region in &self.regions {
-            for word in [region.start, region.length, region.kind] {
-                bytes.extend(word.to_le_bytes());
-            }
-        }
-        bytes.extend(&self.data);
-        bytes
+        self.parts().bytes()
     }
 }
 

@@ -6,8 +6,8 @@ use crate::types::{Began, Buffers, Engine, Header, Lists, Ran, State};
 
 pub const ENGINE: Engine = Engine { name: "interpreter", read, begin, run };
 
-const FIRST_BYTES: [u8; 4] = [0x54, 0x55, 0x4E, 0x31];
-const CODE_AT: u32 = 32;
+pub const FIRST_BYTES: [u8; 4] = [0x54, 0x55, 0x4E, 0x31];
+pub const CODE_AT: u32 = 32;
 
 const STOP: u8 = 0;
 const MOV: u8 = 1;
@@ -44,7 +44,7 @@ const FILLED: u32 = 1;
 const UNDEFINED: u32 = 2;
 
 /// A refusal's number and index.
-type Refusal = (u32, u32);
+pub type Refusal = (u32, u32);
 
 // ---- What an image holds ----
 
@@ -60,11 +60,11 @@ pub fn read(image: &[u8]) -> (Header, &[u8]) {
     }
 }
 
-fn regions_at(n: u32) -> u32 {
+pub fn regions_at(n: u32) -> u32 {
     CODE_AT + 8 * n
 }
 
-fn data_at(n: u32, r: u32) -> u32 {
+pub fn data_at(n: u32, r: u32) -> u32 {
     regions_at(n) + 12 * r
 }
 
@@ -85,14 +85,15 @@ fn check_image(image: &[u8]) -> Result<Header, Refusal> {
         return Err((4, 0));
     }
     check_instructions(image, &header)?;
-    let filled = check_regions(image, &header)?;
+    let regions = (0..r).map(|index| region(image, &header, index));
+    let filled = check_regions(regions, &header)?;
     if filled != u64::from(header.d) {
         return Err((7, 0));
     }
     Ok(header)
 }
 
-fn within_limits(header: &Header) -> bool {
+pub fn within_limits(header: &Header) -> bool {
     (1..=4096).contains(&header.m)
         && (1..=512).contains(&header.n)
         && header.r <= 32
@@ -119,7 +120,7 @@ fn check_instructions(image: &[u8], header: &Header) -> Result<(), Refusal> {
 }
 
 /// Does the instruction keep to its row of the table, and its result off register 15 (02, L9)?
-fn instruction_allowed(bytes: &[u8], header: &Header) -> bool {
+pub fn instruction_allowed(bytes: &[u8], header: &Header) -> bool {
     let (op, d, a, b) = (bytes[0], bytes[1], bytes[2], bytes[3]);
     let imm = word(bytes, 4);
     let in_row = match op {
@@ -160,12 +161,14 @@ fn region(image: &[u8], header: &Header, index: u32) -> [u32; 3] {
     [word(image, at), word(image, at + 4), word(image, at + 8)]
 }
 
-/// The sum of the filled lengths, or refusal 6.
-fn check_regions(image: &[u8], header: &Header) -> Result<u64, Refusal> {
+/// The sum of the regions' filled lengths, or refusal 6.
+pub fn check_regions(
+    regions: impl Iterator<Item = [u32; 3]>,
+    header: &Header,
+) -> Result<u64, Refusal> {
     let mut previous_end = 0;
     let mut filled = 0;
-    for index in 0..header.r {
-        let [start, length, kind] = region(image, header, index);
+    for (index, [start, length, kind]) in (0..).zip(regions) {
         let end = u64::from(start) + u64::from(length);
         let allowed = length >= 1
             && u64::from(start) >= previous_end

@@ -1,6 +1,7 @@
 //! Cases that are counted through, not drawn: every combination of the edges of one rule.
 
 mod images;
+pub mod rules;
 mod runs;
 
 use crate::cases::{self, Budget, Call, Case};
@@ -32,10 +33,10 @@ pub const FAMILIES: [Family<Case>; 21] = [
     Family { name: "every count at its edges", make: runs::counts },
 ];
 
-const M: u32 = 16;
+pub const M: u32 = 16;
 
 /// Eight filled bytes, four undefined ones, four unaddressable ones.
-fn small_image(prng: &mut Prng, rows: Vec<Row>) -> Image {
+pub fn small_image(prng: &mut Prng, rows: Vec<Row>) -> Image {
     let regions = vec![
         Region { start: 0, length: 8, kind: FILLED },
         Region { start: 8, length: 4, kind: UNDEFINED },
@@ -55,7 +56,7 @@ fn begun_from_bytes(prng: &mut Prng, bytes: Vec<u8>, m: u32, budgets: &[u32]) ->
     Case { desk, calls }
 }
 
-fn three_rows() -> Vec<Row> {
+pub fn three_rows() -> Vec<Row> {
     let copy = Row::copy(1, Operand::Register(FRAME));
     vec![copy, Row::access(op::ST32, 1, FRAME, 0), Row::emit(FRAME, 7)]
 }

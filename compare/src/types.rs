@@ -1,5 +1,5 @@
-//! What every implementation of document 01 takes and answers, so that any two can be put side by
-//! side: the compiled checker, the independent interpreter, and the interpreter with a planted fault.
+//! What every implementation of documents 01 and 02 takes and answers, so that any two can be put side by
+//! side: the compiled checker, the independent interpreter and writer, and those with a planted fault.
 
 /// Registers with their V words, and the counts.
 #[derive(Clone, Copy, Debug, Default, PartialEq, Eq)]
@@ -60,4 +60,28 @@ pub struct Engine {
     pub read: for<'a> fn(&'a [u8]) -> (Header, &'a [u8]),
     pub begin: fn(&[u8], &[u32; 16], Buffers) -> Began,
     pub run: fn(&[u8], &State, Buffers, Lists, u32) -> Ran,
+}
+
+/// What an image is written from: M, two words for each instruction, three for each region, and the data.
+#[derive(Clone, Copy)]
+pub struct Fields<'a> {
+    pub m: u32,
+    pub instructions: &'a [u32],
+    pub regions: &'a [u32],
+    pub data: &'a [u8],
+}
+
+/// What writing answers: 0 or the refusal's number, its index, and the image's length (0 when refused).
+#[derive(Clone, Copy, Debug, Default, PartialEq, Eq)]
+pub struct Written {
+    pub number: u32,
+    pub index: usize,
+    pub size: usize,
+}
+
+/// One implementation of writing. The buffer is lent for one call.
+#[derive(Clone, Copy)]
+pub struct Writer {
+    pub name: &'static str,
+    pub write: fn(&Fields, &mut [u8]) -> Written,
 }

@@ -1,10 +1,10 @@
 //! The sorts of cases that have to be met, op by op, among the counted and among the drawn.
 
 use super::case::is_shift;
-use super::layout::{cell, name_of, Layout};
 use super::{Case, Operands, Seen, OPS};
 use crate::coverage::{add, is_settled, MET_IN};
 use crate::images::op;
+use crate::layout::{cell, name_of, Layout};
 
 /// What a sort looks at.
 struct Met<'a> {

@@ -1,9 +1,9 @@
 //! What was seen, op by op.
 
-use super::layout::{name_of, Layout};
 use super::sorts::Sorts;
 use super::{place_of, Case, Seen, Wrong, OPS};
 use crate::coverage::add;
+use crate::layout::{name_of, Layout};
 
 /// Cases, of them those with every filling, fillings; then bits of results by whether they are called
 /// undefined and whether they vary.

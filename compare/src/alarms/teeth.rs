@@ -2,8 +2,8 @@
 
 use std::ops::Range;
 
-use super::layout::{cell, name_of, Layout};
 use super::{place_of, Case, Cases, Seen, Stepper, Wrong, OPS, WRONGS};
+use crate::layout::{cell, name_of, Layout};
 use crate::types::Engine;
 
 /// Cases of each op that every fault is tried on, those with more undefined bits left out.

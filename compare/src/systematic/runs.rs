@@ -1,11 +1,11 @@
 //! Counted cases of a run: the rules of each op in one step, and of the buffers, lists and counts.
 
-use super::{begun, small_image, three_rows, Choices, M};
+use super::{begun, rules, small_image, three_rows, Choices, M};
 use crate::cases::{self, Budget, Call, Case};
 use crate::edges;
 use crate::images::{op, Image, Operand, Row, FRAME, MOST_MEMORY, MOST_ROWS};
 use crate::prng::Prng;
-use crate::programs::{ACCESSES, ARITHMETIC, RANGES, STORES};
+use crate::programs::{ACCESSES, ARITHMETIC, STORES};
 use crate::types::State;
 
 /// One step from a state with these registers and V words; the others hold anything.
@@ -131,13 +131,8 @@ pub fn emit(choices: &mut Choices, prng: &mut Prng) -> Case {
 }
 
 pub fn range(choices: &mut Choices, prng: &mut Prng) -> Case {
-    let op = choices.pick(&RANGES);
-    let m = choices.pick(&[1, 2, M, 255, 256, 257, MOST_MEMORY]);
-    let start = choices.pick(&[0, 1, m / 2, m - 1, m, m + 1, 0x7FFF, 0xFFFF]);
-    let beside = m.saturating_sub(start);
-    let length = choices.pick(&[0, 1, 2, m - 1, m, m + 1, beside, beside + 1, 0xFFFF]);
-    let image = Image::new(m, vec![Row::range(op, start, length)], Vec::new(), prng);
-    let mut desk = cases::desk(prng, image.bytes(), m);
+    let image = rules::range(choices, prng);
+    let mut desk = cases::desk(prng, image.bytes(), image.m);
     desk.state.vregs = [0; 16];
     Case { desk, calls: vec![Call::Read, Call::Run(Budget::Exactly(1))] }
 }

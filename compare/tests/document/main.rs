@@ -1,5 +1,6 @@
 //! The interpreter on every pinned test vector of document 01, its worked example, and edges worked out
-//! by hand from its text and that of document 02's requests L1, L4, L9, L13 and L14.
+//! by hand from its text and that of document 02's requests L1, L4, L9, L13 and L14; and both writers on
+//! edges of its request L2.
 
 mod accesses;
 mod alarms;
@@ -14,3 +15,4 @@ mod program;
 mod refusals;
 mod rules;
 mod runs;
+mod writer;

@@ -1,8 +1,10 @@
-//! Compares the checker with the interpreter, tries demand 3 and the alarms, and tries all three on
-//! planted faults.
+//! Compares the checker with the interpreter, tries demand 3 and the alarms, compares the writers, and tries
+//! all of it on planted faults.
+
+mod part;
+mod written;
 
 use std::env;
-use std::fmt::Display;
 use std::ops::Range;
 use std::process::ExitCode;
 
@@ -11,66 +13,59 @@ use compare::claim::{self, Tally, CLAUSES};
 use compare::compare::{compare, Mismatch};
 use compare::coverage::Coverage;
 use compare::plan::Plan;
-use compare::teeth;
-use compare::{checker, guard, interpreter, parallel};
+use compare::{checker, guard, interpreter, teeth};
 
-const USAGE: &str =
-    "compare [--seed S] [--cases K] [--case K0 | --claim K0 | --alarm K0 | --fault NAME]";
-/// Cases that a thread takes at a time.
-const CHUNK: u64 = 256;
-/// Failures printed of each kind.
-const PRINTED: usize = 5;
+use part::{one_of, printed, single, tried, unless, Part};
+
+const USAGE: &str = "compare [--seed S] [--cases K] [--case K0 | --claim K0 | --alarm K0 | \
+                     --written K0 | --rewritten K0 | --fault NAME]";
+
+/// What is tried alone.
+enum Alone {
+    Case(u64),
+    Claim(u64),
+    Alarm(u64),
+    Written(u64),
+    Rewritten(u64),
+    Fault(String),
+}
+
+impl Alone {
+    fn of(word: &str, value: String) -> Option<Alone> {
+        let number = value.parse().ok();
+        Some(match word {
+            "--case" => Alone::Case(number?),
+            "--claim" => Alone::Claim(number?),
+            "--alarm" => Alone::Alarm(number?),
+            "--written" => Alone::Written(number?),
+            "--rewritten" => Alone::Rewritten(number?),
+            "--fault" => Alone::Fault(value),
+            _ => return None,
+        })
+    }
+}
 
 struct Options {
     seed: u64,
-    /// Drawn cases and drawn alarm cases, besides all the counted ones, and half as many claim cases.
+    /// Drawn cases, drawn alarm cases and drawn cases of the writers, besides all the counted ones, and half
+    /// as many claim cases.
     cases: u64,
-    case: Option<u64>,
-    claim: Option<u64>,
-    alarm: Option<u64>,
-    fault: Option<String>,
+    alone: Option<Alone>,
 }
 
 fn options() -> Option<Options> {
-    let mut options =
-        Options { seed: 1, cases: 20_000, case: None, claim: None, alarm: None, fault: None };
+    let mut options = Options { seed: 1, cases: 20_000, alone: None };
     let mut words = env::args().skip(1);
     while let Some(word) = words.next() {
         let value = words.next()?;
-        let number = value.parse().ok();
         match word.as_str() {
-            "--seed" => options.seed = number?,
-            "--cases" => options.cases = number?,
-            "--case" => options.case = Some(number?),
-            "--claim" => options.claim = Some(number?),
-            "--alarm" => options.alarm = Some(number?),
-            "--fault" => options.fault = Some(value),
-            _ => return None,
+            "--seed" => options.seed = value.parse().ok()?,
+            "--cases" => options.cases = value.parse().ok()?,
+            _ if options.alone.is_some() => return None,
+            _ => options.alone = Some(Alone::of(&word, value)?),
         }
     }
-    let numbers = [options.case, options.claim, options.alarm];
-    let alone = numbers.iter().flatten().count() + usize::from(options.fault.is_some());
-    (alone <= 1).then_some(options)
-}
-
-/// What every chunk of the numbers met, given to `add`; how many failed, of which the first few are
-/// printed.
-fn tried<T: Send, F: Display + Send>(
-    numbers: Range<u64>,
-    work: impl Fn(Range<u64>) -> (T, Vec<F>) + Sync,
-    mut add: impl FnMut(&T),
-) -> usize {
-    let mut failures = 0;
-    for (met, found) in parallel::in_order(numbers, CHUNK, work) {
-        add(&met);
-        for failure in &found {
-            if failures < PRINTED {
-                println!("{failure}");
-            }
-            failures += 1;
-        }
-    }
-    failures
+    Some(options)
 }
 
 /// These cases on both engines; how many mismatched.
@@ -110,24 +105,6 @@ fn alarms(cases: &Cases, count: u64) -> (alarms::Tally, usize) {
     let mut total = alarms::Tally::default();
     let failures = tried(0..count, work, |tally| total.add(tally));
     (total, failures)
-}
-
-/// One case alone; the status is 1 if it fails.
-fn single(failure: Option<String>) -> ExitCode {
-    println!("{}", failure.as_deref().unwrap_or("compare: 1 case, as it should be"));
-    ExitCode::from(u8::from(failure.is_some()))
-}
-
-/// What a part of the run came to: its words of the last line, and whether it is as it should be.
-struct Part {
-    words: String,
-    passed: bool,
-}
-
-/// Each is printed; how many there are.
-fn printed(what: &str, lines: &[String]) -> usize {
-    lines.iter().for_each(|line| println!("{what}: {line}"));
-    lines.len()
 }
 
 /// The counted and the drawn cases, and how many mismatched.
@@ -200,24 +177,12 @@ fn all(options: &Options) -> ExitCode {
     let plan = Plan::new(options.seed);
     let (comparison, mismatches) = compared(options, &plan);
     let (claim, alarms) = (claimed(options), alarmed(options));
-    let teeth = if mismatches == 0 {
-        bitten(options, &plan)
-    } else {
-        println!("faults not tried: a checker that mismatches says nothing about them\n");
-        Part { words: "faults not tried".to_string(), passed: false }
-    };
-    let parts = [comparison, claim, alarms, teeth];
+    let teeth = unless(mismatches, || bitten(options, &plan));
+    let (writers, mismatches) = written::compared(options, &plan);
+    let writer_teeth = unless(mismatches, || written::bitten(options));
+    let parts = [comparison, claim, alarms, teeth, writers, writer_teeth];
     println!("compare: {}", parts.each_ref().map(|part| part.words.as_str()).join("; "));
     ExitCode::from(u8::from(!parts.iter().all(|part| part.passed)))
-}
-
-/// One case, of which there is none past the last drawn one.
-fn one_of(cases: u64, number: u64, failure: impl FnOnce() -> Option<String>) -> ExitCode {
-    if number < cases {
-        return single(failure());
-    }
-    eprintln!("compare: no case {number}, the last is {}", cases - 1);
-    ExitCode::from(2)
 }
 
 fn one_case(options: &Options, number: u64) -> ExitCode {
@@ -238,29 +203,34 @@ fn one_alarm(options: &Options, number: u64) -> ExitCode {
     })
 }
 
+/// The planted fault of this name, of the interpreter or of a writer; the status is 1 unless it is found.
+fn one_fault(options: &Options, name: &str) -> ExitCode {
+    let plan = Plan::new(options.seed);
+    let bites = teeth::bites(&plan, plan.counted() + options.cases, Some(name));
+    if bites.is_empty() {
+        return written::one_fault(options, name);
+    }
+    print!("{}", teeth::table(&bites));
+    ExitCode::from(u8::from(!bites.iter().all(|bite| bite.is_found())))
+}
+
 fn main() -> ExitCode {
     let Some(options) = options() else {
         eprintln!("{USAGE}");
         return ExitCode::from(2);
     };
     guard::keep_guarded_panics_quiet();
-    if let Some(number) = options.case {
-        return one_case(&options, number);
+    match &options.alone {
+        None => all(&options),
+        Some(Alone::Case(number)) => one_case(&options, *number),
+        Some(Alone::Claim(number)) => {
+            let tally = &mut Tally::default();
+            let answer = claim::try_case(&checker::ENGINE, options.seed, *number, tally);
+            single(answer.err().map(|failure| failure.to_string()))
+        }
+        Some(Alone::Alarm(number)) => one_alarm(&options, *number),
+        Some(Alone::Written(number)) => written::one_case(&options, *number),
+        Some(Alone::Rewritten(number)) => written::one_image(&options, *number),
+        Some(Alone::Fault(name)) => one_fault(&options, name),
     }
-    if let Some(number) = options.claim {
-        let tally = &mut Tally::default();
-        let answer = claim::try_case(&checker::ENGINE, options.seed, number, tally);
-        return single(answer.err().map(|failure| failure.to_string()));
-    }
-    if let Some(number) = options.alarm {
-        return one_alarm(&options, number);
-    }
-    if let Some(name) = &options.fault {
-        let plan = Plan::new(options.seed);
-        let bites = teeth::bites(&plan, plan.counted() + options.cases, Some(name));
-        print!("{}", teeth::table(&bites));
-        let found = !bites.is_empty() && bites.iter().all(|bite| bite.is_found());
-        return ExitCode::from(u8::from(!found));
-    }
-    all(&options)
 }
