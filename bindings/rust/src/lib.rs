@@ -139,6 +139,18 @@ pub fn run(
 
 /// Writes the image of these fields to the first bytes of `out`, and says how many they are.
 /// Refusals 3, 5, 6, 7 and 12.
+///
+/// ```
+/// use uviktalik::{numbers::MAX_IMAGE, Fields};
+///
+/// // MOV 2, 5; EMIT 2 at port 1; STOP
+/// let instructions = [0xFF00_0201, 5, 0x0002_0012, 1, 0, 0];
+/// let fields = Fields { m: 16, instructions: &instructions, regions: &[], data: &[] };
+/// let mut out = [0; MAX_IMAGE];
+/// let size = uviktalik::write(&fields, &mut out)?;
+/// assert_eq!(uviktalik::read(&out[..size])?.n, 3);
+/// # Ok::<(), uviktalik::Refusal>(())
+/// ```
 pub fn write(fields: &Fields, out: &mut [u8]) -> Result<usize, Refusal> {
     let (mut size, mut fault) = (0, 0);
     let number = raw::write(fields, out, &mut size, &mut fault);
