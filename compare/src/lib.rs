@@ -2,6 +2,7 @@
 
 pub mod alarms;
 pub mod bare;
+pub mod broken;
 pub mod calls;
 pub mod cases;
 pub mod checker;

@@ -3,6 +3,8 @@
 
 use std::fmt;
 
+use crate::broken;
+
 #[derive(Clone, Copy, PartialEq, Eq)]
 pub enum Clause {
     Trap,
@@ -55,7 +57,7 @@ impl Clause {
     }
 
     pub fn broken(self, words: String) -> Broken {
-        Broken { clause: self, words }
+        Broken::new(self, self.name(), &words)
     }
 
     /// Broken unless the words are equal; `of` says what they are words of.
@@ -67,14 +69,4 @@ impl Clause {
     }
 }
 
-/// A clause that does not hold, and in what.
-pub struct Broken {
-    pub clause: Clause,
-    words: String,
-}
-
-impl fmt::Display for Broken {
-    fn fmt(&self, out: &mut fmt::Formatter) -> fmt::Result {
-        write!(out, "{}: {}", self.clause.name(), self.words)
-    }
-}
+pub type Broken = broken::Broken<Clause>;

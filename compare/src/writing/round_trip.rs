@@ -3,6 +3,7 @@
 
 use std::fmt;
 
+use crate::broken;
 use crate::guard::guarded;
 use crate::parts::Parts;
 use crate::types::{Engine, Header, Writer, Written};
@@ -56,7 +57,7 @@ impl Clause {
     }
 
     fn broken(self, words: String) -> Broken {
-        Broken { clause: self, words }
+        Broken::new(self, self.name(), &words)
     }
 
     /// Broken unless the two are equal.
@@ -83,18 +84,7 @@ impl Clause {
     }
 }
 
-/// A clause that does not hold, and in what.
-#[derive(Clone)]
-pub struct Broken {
-    pub clause: Clause,
-    words: String,
-}
-
-impl fmt::Display for Broken {
-    fn fmt(&self, out: &mut fmt::Formatter) -> fmt::Result {
-        write!(out, "{}: {}", self.clause.name(), self.words)
-    }
-}
+pub type Broken = broken::Broken<Clause>;
 
 /// What came of an image that was to be taken apart.
 #[derive(Clone, Copy, PartialEq, Eq)]

@@ -30,5 +30,8 @@ bytes-take (suc n) [] b k = b k
 bytes-take (suc n) (x ∷ s) b zero = b 0
 bytes-take (suc n) (x ∷ s) b (suc k) = bytes-take n s (λ j. b (suc j)) k
 
+pub bytes-drop : (n : ℕ) (s : List ℕ) → Bytes s → Bytes (drop n s)
+bytes-drop n s b k = rw getD-drop (b (n + k))
+
 pub bytes-part : (s : List ℕ) (at size : ℕ) → Bytes s → Bytes (partOf s at size)
-bytes-part s at size b = bytes-take size (drop at s) (λ k. rw getD-drop (b (at + k)))
+bytes-part s at size b = bytes-take size (drop at s) (bytes-drop at s b)

@@ -6,7 +6,7 @@ use mathlib.Core.List.{List, _++_}
 use native.Mathlib.Nat.{mul-mod-right}
 use native.Mathlib.Omega.{arith}
 use lib.ListN.{length, take, drop, length-drop}
-use lib.Seq.{take-append-seam, take-add, take-all, getD-drop}
+use lib.Seq.{take-append-seam, take-add, take-all}
 use borrow.Author.Tests.{le-leb, eq-eqb}
 use Rattle.image.specs.Words.{Bytes}
 use Rattle.image.specs.Format.{magic, headerSize, regionsAt, dataAt, sizeOf, fieldM, fieldN, fieldR, fieldD, limitsOk, codePart, regionPart, dataPart}
@@ -15,7 +15,7 @@ use Rattle.image.specs.Refusals.{accepted, unless, orElse, refusalOf, headerOf,
 use Rattle.image.specs.Accepted.{Accepted}
 use Rattle.image.specs.declared.Header.{Header}
 use Rattle.image.specs.declared.Refusal.{Refusal}
-use Rattle.image.proofs.Parts.{bytes-part}
+use Rattle.image.proofs.Parts.{bytes-drop, bytes-part}
 use Rattle.image.proofs.AcceptedImage.{accepted-image, accepted-header, accepted-code, header-refusal, limits-pass, code-length, region-length, data-length}
 use Rattle.writer.specs.Words.{bytesOf, firstWords, wordsOf, Words, instructionWords, regionWords}
 use Rattle.writer.specs.Writing.{noRoom, instructionCount, regionCount, headerWords, imageOf, wholeEntries, countsOk, entriesRefusal, roomOk, writeRefusal, written, writeAnswer}
@@ -118,7 +118,7 @@ module _ (s : List ℕ) (b : Bytes s) (a : Accepted s) where
   header-again =
       let words : firstWords (drop 4 s) 7 ≡ headerWords (fieldM s) n r (fieldD s) = simp (word-drop, a .layout .code, a .layout .regions, a .layout .held) in
       let bytes : bytesOf (headerWords (fieldM s) n r (fieldD s)) ≡ take 28 (drop 4 s) =
-      ap bytesOf (sym words) ∙ first-bytes (drop 4 s) 7 (λ k. rw getD-drop (b (4 + k))) (omega (arith, a .long, length-drop 4 s)) in
+      ap bytesOf (sym words) ∙ first-bytes (drop 4 s) 7 (bytes-drop 4 s b) (omega (arith, a .long, length-drop 4 s)) in
       sym (take-add 4 28 s ∙ ap (λ (t : List ℕ). t ++ take 28 (drop 4 s)) (a .starts) ∙ ap (λ (t : List ℕ). magic ++ t) (sym bytes))
 
   image-again : imageOf (fieldM s) code places filling ≡ s

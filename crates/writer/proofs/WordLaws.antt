@@ -9,6 +9,7 @@ use lib.Seq.{getD-append-add, getD-drop, take-append-add, take-all}
 use Rattle.rules.specs.Bytes.{byteOf, joined}
 use Rattle.rules.proofs.ByteLaws.{joined-bytes, byte-joined}
 use Rattle.image.specs.Words.{nthWord, Bytes}
+use Rattle.image.proofs.Parts.{bytes-drop}
 use Rattle.image.proofs.DecodedFits.{word-lt}
 use Rattle.writer.specs.Words.{wordBytes, bytesOf, firstWords, wordsOf, Words}
 
@@ -92,19 +93,19 @@ pub words-fit : (s : List ℕ) (count : ℕ) → Bytes s → Words (firstWords s
 unfolding firstWords
 words-fit s zero b k = omega arith
 words-fit s (suc count) b zero = word-lt s 0 b
-words-fit s (suc count) b (suc k) = words-fit (drop 4 s) count (λ i. rw getD-drop (b (4 + i))) k
+words-fit s (suc count) b (suc k) = words-fit (drop 4 s) count (bytes-drop 4 s b) k
 
--- ---- the words of a list that goes on
+-- ---- words of two lists whose four bytes are the same
+same-word : (s t : List ℕ) (k l : ℕ) → ((j : ℕ) → j < 4 → getD s (4 * k + j) 0 ≡ getD t (4 * l + j) 0) → nthWord s k ≡ nthWord t l
+unfolding nthWord joined
+same-word s t k l h = rw (h 0 (omega arith), h 1 (omega arith), h 2 (omega arith), h 3 (omega arith))
+
+-- of a list that goes on
 pub word-front : (s t : List ℕ) (k : ℕ) → 4 * k + 4 ≤ length s → nthWord (s ++ t) k ≡ nthWord s k
-unfolding nthWord joined
-word-front s t k h = rw (at 0 (omega arith), at 1 (omega arith), at 2 (omega arith), at 3 (omega arith))
-  where
-    at : (j : ℕ) → j < 4 → getD (s ++ t) (4 * k + j) 0 ≡ getD s (4 * k + j) 0
-    at j l = List·getD-append s t 0 (4 * k + j) (omega arith)
+word-front s t k h = same-word (s ++ t) s k k (λ j l. List·getD-append s t 0 (4 * k + j) (omega arith))
 
+-- and without its first four bytes
 pub word-drop : (s : List ℕ) (k : ℕ) → nthWord (drop 4 s) k ≡ nthWord s (suc k)
-unfolding nthWord joined
-word-drop s k = rw (at 0, at 1, at 2, at 3)
-  where
-    at : (j : ℕ) → getD (drop 4 s) (4 * k + j) 0 ≡ getD s (4 * suc k + j) 0
-    at j = getD-drop 4 s (4 * k + j) 0 ∙ ap (λ (i : ℕ). getD s i 0) (let e : 4 + (4 * k + j) ≡ 4 * suc k + j = omega arith in e)
+word-drop s k =
+    same-word (drop 4 s) s k (suc k)
+    (λ j l. getD-drop 4 s (4 * k + j) 0 ∙ ap (λ (i : ℕ). getD s i 0) (let e : 4 + (4 * k + j) ≡ 4 * suc k + j = omega arith in e))

@@ -35,7 +35,7 @@ imageOf m instructions regions held =
 abbrev pub wholeEntries : ℕ → List ℕ → Bool
 wholeEntries size l = eqb (length l % size) 0
 
--- 3: a part of an entry, or M, N, R or D out of limits
+-- else 3: no part of an entry, and M, N, R and D within their limits
 unfoldable pub countsOk : ℕ → (instructions regions : List ℕ) (d : ℕ) → Bool
 countsOk m instructions regions d =
     wholeEntries instructionWords instructions && wholeEntries regionWords regions && limitsOk m (instructionCount instructions) (regionCount regions) d
@@ -45,7 +45,7 @@ unfoldable pub entriesRefusal : ℕ → (instructions regions : List ℕ) (d : �
 entriesRefusal m instructions regions d =
     contentRefusal (bytesOf instructions) (bytesOf regions) m (instructionCount instructions) (regionCount regions) d
 
--- 12: a buffer of so many bytes is shorter than the image
+-- else 12: a buffer of so many bytes is not shorter than the image
 abbrev pub roomOk : (instructions regions : List ℕ) (d room : ℕ) → Bool
 roomOk instructions regions d room = leb (sizeOf (instructionCount instructions) (regionCount regions) d) room
 
