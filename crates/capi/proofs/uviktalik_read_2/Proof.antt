@@ -1,11 +1,11 @@
 use borrow.Author.Needs.{needs}
 use mathlib.Core.Path.{ap}
 use Rattle.capi.specs.Words.{codeRange}
-use Rattle.capi.proofs.uviktalik_read_1.Statement.{statement}
-use Rattle.capi.proofs.uviktalik_read_1.Tie as tie
+use Rattle.capi.proofs.uviktalik_read_2.Statement.{statement}
+use Rattle.capi.proofs.uviktalik_read_2.Tie as tie
 
-pub uviktalik-read-1-spec : {M : Type 1} → statement M
-uviktalik-read-1-spec =
+pub uviktalik-read-2-spec : {M : Type 1} → statement M
+uviktalik-read-2-spec =
     tie.close
     (tie.spec
     (λ c κs. search needs)

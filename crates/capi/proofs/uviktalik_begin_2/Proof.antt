@@ -1,10 +1,10 @@
 use borrow.Author.Needs.{needs}
 use Rattle.capi.proofs.CallLaws.{begun-words}
-use Rattle.capi.proofs.uviktalik_begin_1.Statement.{statement}
-use Rattle.capi.proofs.uviktalik_begin_1.Tie as tie
+use Rattle.capi.proofs.uviktalik_begin_2.Statement.{statement}
+use Rattle.capi.proofs.uviktalik_begin_2.Tie as tie
 
-pub uviktalik-begin-1-spec : {M : Type 1} → statement M
-uviktalik-begin-1-spec =
+pub uviktalik-begin-2-spec : {M : Type 1} → statement M
+uviktalik-begin-2-spec =
     tie.close
     (tie.spec
     (λ c κs. search needs)

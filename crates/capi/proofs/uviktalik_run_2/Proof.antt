@@ -1,10 +1,10 @@
 use borrow.Author.Needs.{needs}
 use Rattle.capi.proofs.CallLaws.{run-words}
-use Rattle.capi.proofs.uviktalik_run_1.Statement.{statement}
-use Rattle.capi.proofs.uviktalik_run_1.Tie as tie
+use Rattle.capi.proofs.uviktalik_run_2.Statement.{statement}
+use Rattle.capi.proofs.uviktalik_run_2.Tie as tie
 
-pub uviktalik-run-1-spec : {M : Type 1} → statement M
-uviktalik-run-1-spec =
+pub uviktalik-run-2-spec : {M : Type 1} → statement M
+uviktalik-run-2-spec =
     tie.close
     (tie.spec
     (λ c κs. search needs)
