@@ -105,7 +105,7 @@ roomCases =
     ∷ refuses 1 stop [] [] 0 12 0
     ∷ []
 
--- 3: M, N, R and D out of limits; N 513 is within, and there is no room for it, and so is D 4,097, which no region takes
+-- 3: M, N, R and D out of limits; N 513 and 2,048 are within, and the first instruction has op 25; and so are D 4,097 and 8,192, which no region takes
 abbrev pub limitCases : List WriteCase
 limitCases =
     refuses 0 stop [] [] 40 3 0
@@ -113,10 +113,12 @@ limitCases =
     ∷ refuses 0xFFFFFFFF stop [] [] 40 3 0
     ∷ refuses 1 [] [] [] 40 3 0
     ∷ refuses 1 (replicate 4098 0) [] [] 40 3 0
-    ∷ refuses 1 (replicate 1026 0) [] [] 40 12 0
+    ∷ refuses 1 (25 ∷ replicate 1025 0) [] [] 40 5 0
+    ∷ refuses 1 (25 ∷ replicate 4095 0) [] [] 40 5 0
     ∷ refuses 4096 stop (replicate 99 1) [] 40 3 0
     ∷ refuses 8192 stop [] (replicate 8193 0) 40 3 0
     ∷ refuses 4096 stop [] (replicate 4097 0) 40 7 0
+    ∷ refuses 8192 stop [] (replicate 8192 0) 40 7 0
     ∷ []
 
 -- 3: a list ends in a part of an entry
