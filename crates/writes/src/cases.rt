@@ -152,7 +152,7 @@ pub fn most_data() {
     written(b"D 8192", 8_192, &code, &regions, &data[..8_192], &mut out);
 }
 
-// M 4,096 and 513 instructions, and M 4,097 with 4,097 bytes of data, which fill it.
+// 512 instructions alone and one more; 4,097 bytes of data, which fill a memory of as many.
 pub fn within() {
     let code = [0u32; 1_026];
     let region = [0u32, 4_097, 1];
