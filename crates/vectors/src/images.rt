@@ -272,9 +272,8 @@ fn put_regions(image: &mut [u8], at: u16, size: u32) {
     let mut start = 0u32;
     let mut i = 0u8;
     while i < 32 {
-        if at < 60_000 {
-            put_region(image, at + 12 * (i as u16), start, size, 1);
-        }
+        let place = std::num::wrapping_add_u16(at, 12 * (i as u16));
+        put_region(image, place, start, size, 1);
         start = std::num::wrapping_add_u32(start, size);
         i += 1;
     }
