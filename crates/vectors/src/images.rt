@@ -75,9 +75,13 @@ fn put_region(image: &mut [u8], at: u16, start: u32, size: u32, kind: u32) {
 // A byte of the example and its new value, and another; or the same one twice.
 struct Change(u8, u8, u8, u8);
 
+// Where the rows of the second table begin, and how many both have.
+const CONTENT_FROM: usize = 20;
+
 const CHANGED: usize = 41;
 
-const CHANGES: [Change; CHANGED] = [
+// Changes of the magic and of a size.
+const SIZES: [Change; CONTENT_FROM] = [
     Change(0, 0x55, 0, 0x55), // the magic's first byte
     Change(3, 0x32, 3, 0x32), // the magic's last byte
     Change(4, 0, 4, 0), // M 0
@@ -98,6 +102,10 @@ const CHANGES: [Change; CHANGED] = [
     Change(24, 0, 25, 32), // D 8192
     Change(24, 1, 25, 32), // D 8193
     Change(24, 0, 27, 128), // D with a high byte
+];
+
+// Changes of an offset, an instruction or a region, and two at once.
+const CONTENT: [Change; CHANGED - CONTENT_FROM] = [
     Change(12, 33, 12, 33), // code at 33
     Change(20, 65, 20, 65), // regions at 65
     Change(28, 77, 28, 77), // data at 77
@@ -137,10 +145,21 @@ fn read_changed(c: Change) {
     read_front(b"", &image, 76);
 }
 
+// Row i of both; beyond them the first.
+fn row(i: usize) -> Change {
+    if i < CONTENT_FROM {
+        SIZES[i]
+    } else if i < CHANGED {
+        CONTENT[i - CONTENT_FROM]
+    } else {
+        SIZES[0]
+    }
+}
+
 pub fn changes() {
     let mut i = 0;
     while i < CHANGED {
-        read_changed(CHANGES[i]);
+        read_changed(row(i));
         i += 1;
     }
 }

@@ -127,19 +127,24 @@ pub fn more_faults() {
     written(b"and M 8193", 8_193, &code, &regions, &data, &mut out);
 }
 
-// Instructions alone, as many as there may be and one more, and none; M 0, 33 regions.
-pub fn limits() {
+// Instructions alone, as many as there may be and one more.
+pub fn most_code() {
     let code = [0u32; 4_098];
-    let regions = [1u32; 99];
     let mut full = [0xeeu8; 16_420];
-    written(b"N 2048", 1, &code[..4_096], &regions[..0], b"", &mut full);
+    written(b"N 2048", 1, &code[..4_096], &REGIONS[..0], b"", &mut full);
     bytes(&full, 16_408, 12);
-    let mut more = [0xeeu8; 16_424];
-    written(b"N 2049", 1, &code, &regions[..0], b"", &mut more);
+    let mut out = [0xeeu8; 16_424];
+    written(b"N 2049", 1, &code, &REGIONS[..0], b"", &mut out);
+}
+
+// No instruction, M 0, 33 regions.
+pub fn limits() {
+    let code = [0u32; 2];
+    let regions = [1u32; 99];
     let mut out = [0xeeu8; 440];
     written(b"N 0", 1, &code[..0], &regions[..0], b"", &mut out);
-    written(b"M 0", 0, &code[..2], &regions[..0], b"", &mut out);
-    written(b"R 33", 8_192, &code[..2], &regions, b"", &mut out);
+    written(b"M 0", 0, &code, &regions[..0], b"", &mut out);
+    written(b"R 33", 8_192, &code, &regions, b"", &mut out);
 }
 
 // One byte of data more than there may be.
@@ -152,21 +157,25 @@ pub fn most_data() {
     written(b"D 8192", 8_192, &code, &regions, &data[..8_192], &mut out);
 }
 
-// 512 instructions alone and one more; 4,097 bytes of data, which fill a memory of as many.
-pub fn within() {
+// 512 instructions alone, and one more.
+pub fn more_code() {
     let code = [0u32; 1_026];
+    let mut full = [0xeeu8; 4_140];
+    written(b"N 512", 1, &code[..1_024], &REGIONS[..0], b"", &mut full);
+    bytes(&full, 4_120, 12);
+    let mut out = [0xeeu8; 4_140];
+    written(b"N 513", 4_096, &code, &REGIONS[..0], b"", &mut out);
+    bytes(&out, 4_128, 12);
+}
+
+// 4,097 bytes of data, which fill a memory of as many.
+pub fn more_data() {
     let region = [0u32, 4_097, 1];
     let data = [0x5au8; 4_097];
-    let mut coded = [0xeeu8; 4_140];
-    written(b"N 512", 1, &code[..1_024], &region[..0], b"", &mut coded);
-    bytes(&coded, 4_120, 12);
-    let mut longer = [0xeeu8; 4_140];
-    written(b"N 513", 4_096, &code, &region[..0], b"", &mut longer);
-    bytes(&longer, 4_128, 12);
-    let mut filled = [0xeeu8; 4_152];
-    written(b"D 4097", 4_097, &code[..2], &region, &data, &mut filled);
-    bytes(&filled, 0, 56);
-    bytes(&filled, 4_144, 8);
+    let mut out = [0xeeu8; 4_152];
+    written(b"D 4097", 4_097, &[0, 0], &region, &data, &mut out);
+    bytes(&out, 0, 56);
+    bytes(&out, 4_144, 8);
 }
 
 // A part of an entry.

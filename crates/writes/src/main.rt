@@ -9,8 +9,10 @@ fn main() {
     cases::largest();
     cases::faults();
     cases::more_faults();
+    cases::most_code();
     cases::limits();
     cases::most_data();
-    cases::within();
+    cases::more_code();
+    cases::more_data();
     cases::parts();
 }
