@@ -1,11 +1,10 @@
 -- Laws of the dispatch: the instruction that the fields make, by the op that a match has found; what the function of its group asks for follows from what
 -- is known of it, and what it promises is its step.
-use Prim.Native.Nat.{ℕ, _+_, _*_, _/_, _%_, _^_, _<_, _≤_}
-use mathlib.Core.Path.{_≡_, refl, sym, ap, _∙_, subst}
+use Prim.Native.Nat.{ℕ, _+_, _<_}
+use mathlib.Core.Path.{_≡_, refl, sym, _∙_, subst}
 use mathlib.Core.Logic.{inl, inr, ⊎-elim}
-use mathlib.Core.Bool.{Bool, true, false, cond, _||_}
+use mathlib.Core.Bool.{Bool, true, false, _||_}
 use mathlib.Core.List.{List, [], _∷_}
-use native.Mathlib.Omega.{arith}
 use lib.Dec.{eqb}
 use types.Run.{OneOf}
 use borrow.Author.Tests.{eqb-true, ne-eqb}
@@ -16,10 +15,7 @@ use Rattle.image.specs.Encoding.{opOf, ops}
 use Rattle.image.specs.declared.Operand.{Operand}
 use Rattle.image.specs.declared.Operand.the-variants.{Register, Literal}
 use Rattle.image.specs.declared.Width.{Width}
-use Rattle.image.specs.declared.Width.the-variants.{Byte, Half, Word}
 use Rattle.image.specs.declared.Widening.{Widening}
-use Rattle.image.specs.declared.Widening.the-variants.{Zero, Sign}
-use Rattle.rules.proofs.Bits.{lt-or-ge}
 use Rattle.image.proofs.Tests.{apart, either, every-below}
 use Rattle.image.specs.declared.Instruction.{Instruction}
 use Rattle.image.specs.declared.Instruction.the-variants.{Stop, Move, Compute, Load, Store, Jump, Emit, Mark}
@@ -27,7 +23,7 @@ use Rattle.machine.specs.Machine.{Parts, parts}
 use Rattle.machine.specs.Checker.{stepped}
 use Rattle.checker.specs.declared.Counts.{Counts}
 use Rattle.checker.specs.Views.{world}
-use Rattle.checker.specs.Pieces.{moved, StepsRegisters, StepsParts, StepsUse, StepsOutput, StepsMarks, FitsMemory, FitsSome, standing, moveAt, computeAt, markAt, ByteIs, ImmIs, oneOf, loadOps, storeOps, IsAccess, widthNumber, widthOf, wideningOf}
+use Rattle.checker.specs.Pieces.{moved, StepsRegisters, StepsParts, StepsUse, StepsOutput, StepsMarks, FitsMemory, FitsSome, standing, moveAt, computeAt, markAt, ByteIs, ImmIs, oneOf, loadOps, storeOps, IsAccess, widthOf, wideningOf}
 use Rattle.checker.proofs.GroupLaws.{stop-law}
 
 -- ---- what is left when a match has found none of its keys, the last of them first
@@ -71,12 +67,6 @@ is-access {op} l r =
     (λ (e : (oneOf storeOps op || oneOf loadOps op) ≡ true). record { known = l; listed = λ n. other (oneOf storeOps op) (oneOf loadOps op) e n })
     (λ (e : among keys op ≡ true). absurd (none-among keys op r e))
     (either (oneOf storeOps op || oneOf loadOps op) (among keys op) (every-below covered ops refl op l))
-
-pub or-three : (a b c : Bool) → ((a || b) || c) ≡ (a || (b || (c || false)))
-or-three true b c = refl
-or-three false true c = refl
-or-three false false true = refl
-or-three false false false = refl
 
 -- ---- the instruction of an op that a match has found
 module _ {code : List ℕ} {index op : ℕ} (its : ByteIs code index 0 op) where
@@ -191,40 +181,6 @@ module _ {i j : Instruction} (e : i ≡ j) where
 
   pub steps-as : {c t : Counts} {regs regsV regs′ regsV′ : List ℕ} → StepsRegisters j c regs regsV t regs′ regsV′ → StepsRegisters i c regs regsV t regs′ regsV′
   steps-as s = rw e s
-
--- ---- the width and the widening of an op
--- the two bits of each op, as they stand in the table
-numbered : ℕ → Bool
-numbered op = eqb (712488098201600 / 2 ^ (2 * op) % 4) (widthNumber op)
-
-pub width-bits : (op : ℕ) → op < ops → 712488098201600 / 2 ^ (2 * op) % 4 ≡ widthNumber op
-unfolding numbered
-width-bits op l = eqb-true _ _ (every-below numbered ops refl op l)
-
-module _ (op : ℕ) {number : ℕ} (same : number ≡ widthNumber op) where
-  pub width-byte : number ≡ 0 → Byte ≡ widthOf op
-  width-byte e = ap (λ (k : ℕ). cond (eqb k 0) Byte (cond (eqb k 1) Word Half)) (sym e ∙ same)
-
-  pub width-word : number ≡ 1 → Word ≡ widthOf op
-  width-word e = ap (λ (k : ℕ). cond (eqb k 0) Byte (cond (eqb k 1) Word Half)) (sym e ∙ same)
-
-  pub width-half : (number ≡ 0 → ⊥) → (number ≡ 1 → ⊥) → Half ≡ widthOf op
-  width-half n₀ n₁ =
-      let e : Half ≡ cond (eqb number 0) Byte (cond (eqb number 1) Word Half) = rw (ne-eqb number 0 n₀, ne-eqb number 1 n₁) refl in
-      e ∙ ap (λ (k : ℕ). cond (eqb k 0) Byte (cond (eqb k 1) Word Half)) same
-
-pub widens-by-sign : (op : ℕ) → 22 ≤ op → op < 24 → Sign ≡ wideningOf op
-widens-by-sign op least most =
-    ⊎-elim
-    (λ (l : op < 23). let e : op ≡ 22 = omega arith in rw e refl)
-    (λ (g : 23 ≤ op). let e : op ≡ 23 = omega arith in rw e refl)
-    (lt-or-ge op 23)
-
-pub widens-below : (op : ℕ) → op < 22 → Zero ≡ wideningOf op
-widens-below op l = rw (ne-eqb op 22 (λ e. omega arith), ne-eqb op 23 (λ e. omega arith)) refl
-
-pub widens-above : (op : ℕ) → 24 ≤ op → Zero ≡ wideningOf op
-widens-above op l = rw (ne-eqb op 22 (λ e. omega arith), ne-eqb op 23 (λ e. omega arith)) refl
 
 -- ---- what a group asks for
 pub fits-memory : (i j : Instruction) (m : ℕ) → FitsMemory m i → i ≡ j → FitsMemory m j

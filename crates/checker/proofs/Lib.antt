@@ -2,6 +2,7 @@ pub mod Writing
 pub mod RangeLaws
 pub mod StepLaws
 pub mod GroupLaws
+pub mod FieldLaws
 pub mod DispatchLaws
 pub mod RunningLaws
 pub mod BeginLaws

@@ -1,17 +1,22 @@
-// One step: the jump from the op of the instruction at the index to the function of its group. The
-// instruction is read where it stands, in the image's code: each case reads the fields that it uses,
-// and names its operation, so that the compiler makes a piece of code for it alone.
+// One step: the jump from the op of the instruction at the index to the function of its group. Each
+// case reads the fields that it uses, and names its operation, so that the compiler makes a piece of
+// code for it alone.
 use super::Counts;
 use super::counting;
+use super::fields::A;
+use super::fields::B;
+use super::fields::D;
+use super::fields::field;
+use super::fields::imm;
+use super::fields::is_store;
+use super::fields::widening_of;
+use super::fields::width_of;
 use super::step;
 use image::Operand;
-use image::Widening;
-use image::Width;
-use image::format::INSTRUCTION;
+use image::format::HALF;
 use image::ops;
 use rules::Data;
 use rules::Operation;
-use rules::bytes::join4;
 ghost use mathlib.Core.Path.{_≡_};
 ghost use Prim.Native.Nat.{_/_, _<_};
 ghost use lib.ListN.{length};
@@ -22,81 +27,10 @@ ghost use Rattle.image.specs.declared.Operand.the-variants.{Register, Literal};
 ghost use Rattle.machine.specs.Machine.{parts};
 ghost use Rattle.machine.specs.Checker.{stepped};
 ghost use Rattle.checker.specs.Views.{world};
-ghost use Rattle.checker.specs.Pieces.{Room, StepsRegisters, StepsParts, StepsMarks, FitsMemory, FitsSome, MayStep, standing, moveAt, computeAt, markAt, ByteIs, ImmIs, oneOf, storeOps, IsAccess, widthNumber, widthOf, wideningOf};
+ghost use Rattle.checker.specs.Pieces.{Room, StepsRegisters, StepsParts, StepsMarks, FitsMemory, FitsSome, MayStep, standing, moveAt, computeAt, markAt, ByteIs, IsAccess};
 
-// ---- the fields of an instruction
-// The bytes d, a and b, and the first byte of imm; op is byte 0.
-const D: usize = 1;
-
-const A: usize = 2;
-
-const B: usize = 3;
-
-const IMM: usize = 4;
-
-// One of the first four bytes.
-pub fn field(code: &[u8], index: u32, k: usize) -> u8
-    requires { ⌜ (index < length (now code) / instructionSize) × (k < instructionSize) ⌝ }
-    ensures { λ r. ⌜ ByteIs (now (code .entry)) index k r ⌝ }
-{
-    code[INSTRUCTION * index as usize + k]
-}
-
-fn imm(code: &[u8], index: u32) -> u32
-    requires { ⌜ index < length (now code) / instructionSize ⌝ }
-    ensures { λ r. ⌜ ImmIs (now (code .entry)) index r ⌝ }
-{
-    let at = INSTRUCTION * index as usize + IMM;
-    join4(code[at], code[at + 1], code[at + 2], code[at + 3])
-}
-
-// ---- loads and stores
-fn is_store(op: u8) -> bool
-    ensures { λ r. ⌜ r ≡ oneOf storeOps op ⌝ }
-{
-    (op == ops::ST8) | (op == ops::ST32) | (op == ops::ST16)
-}
-
-// Two bits for each op: 1 where it moves a word, 2 where a half word.
-const WIDTHS: u64 = 1 << (2 * ops::LD32 as u64)
-    | 1 << (2 * ops::ST32 as u64)
-    | 2 << (2 * ops::LD16 as u64)
-    | 2 << (2 * ops::LDS16 as u64)
-    | 2 << (2 * ops::ST16 as u64);
-
-// The two bits of an op. They are shifted out, as a match on the op takes several jumps.
-fn width_number(op: u8) -> u64
-    requires { ⌜ op < ops ⌝ }
-    ensures { λ r. ⌜ r ≡ widthNumber op ⌝ }
-{
-    (WIDTHS >> (2 * op as u64)) % 4
-}
-
-fn width_of(op: u8) -> Width
-    requires { ⌜ op < ops ⌝ }
-    ensures { λ r. ⌜ r ≡ widthOf op ⌝ }
-{
-    let number = width_number(op);
-    match number {
-        0 => Width::Byte,
-        1 => Width::Word,
-        _ => Width::Half,
-    }
-}
-
-fn widening_of(op: u8) -> Widening
-    ensures { λ r. ⌜ r ≡ wideningOf op ⌝ }
-{
-    match op {
-        ops::LDS8 | ops::LDS16 => Widening::Sign,
-        _ => Widening::Zero,
-    }
-}
-
-// The halves of the range of OPEN and CLOSE: start in the low one, length in the high one.
-const HALF: u32 = 0x1_0000;
-
-// ---- the operand: a register or a literal
+// ---- the groups
+// MOV.
 fn moves(c: Counts, code: &[u8], regs: &mut [u32; 16], shadows: &mut [u32; 16]) -> Counts
     requires { ⌜ Room c × (c .index < length (now code) / instructionSize) × FitsSome (moveAt (now code) (c .index)) ⌝ }
     ensures { λ t. ⌜ StepsRegisters (moveAt (now (code .entry)) (c .index)) c (now (regs .entry)) (now (shadows .entry)) t (now (regs .exit)) (now (shadows .exit)) ⌝ }
@@ -142,7 +76,8 @@ fn on_literal(
     step::compute(c, op, d, a, Operand::Literal(y), regs, shadows)
 }
 
-// An operation on a register and B.
+// An operation on a register and B. The two functions above, which it calls, stand by themselves: without
+// them the code of every step has six instructions more.
 fn computes(
     c: Counts,
     op: Operation,

@@ -12,6 +12,7 @@ mod beginning; // beginning.rt: what an accepted image makes of the buffers
 mod calls; // calls.rt: the public calls with their refusals
 mod counting; // counting.rt: the counts
 mod dispatch; // dispatch.rt: one step
+mod fields; // fields.rt: an instruction where it stands
 mod kinds; // kinds.rt: the kinds of report
 mod lists; // lists.rt: the two lists
 mod ranges; // ranges.rt: ranges of bytes

@@ -2,6 +2,7 @@
 // reason that it meets.
 use super::Counts;
 use super::dispatch;
+use super::fields;
 use super::limits::OUTPUT;
 use super::reasons;
 use image::ops;
@@ -80,7 +81,7 @@ fn turn(
             counts: c,
         };
     }
-    let op = dispatch::field(code, c.index, 0);
+    let op = fields::field(code, c.index, fields::OP);
     let found = reason_at(op, c.outputs, places, left);
     if found != reasons::GOES_ON {
         return Ended {

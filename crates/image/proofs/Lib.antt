@@ -3,6 +3,7 @@ pub mod Tests
 pub mod Faults
 pub mod RegionLaws
 pub mod AcceptedImage
+pub mod Former
 pub mod Decoding
 pub mod DecodedFits
 pub mod EncodingLaws

@@ -3,6 +3,7 @@ pub mod Format
 pub mod Rows
 pub mod Regions
 pub mod Refusals
+pub mod Former
 pub mod Accepted
 pub mod Encoding
 pub mod Example

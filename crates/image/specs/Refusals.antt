@@ -75,25 +75,31 @@ sumRefusal regions r d = unless (eqb (filledSum regions r) d) wrongSum accepted
 abbrev pub contentRefusal : (code regions : List ℕ) (m n r d : ℕ) → Refusal
 contentRefusal code regions m n r d = orElse (codeRefusal code n m) (orElse (regionRefusal regions r m) (sumRefusal regions r d))
 
--- the first that applies, in number order
-abbrev pub refusalWith : (s : List ℕ) (m n r d : ℕ) → Refusal
-refusalWith s m n r d =
+-- the first that applies, in number order; `within` says whether M, N, R and D keep some limits
+abbrev pub refusalBy : (within : Bool) (s : List ℕ) (m n r d : ℕ) → Refusal
+refusalBy within s m n r d =
     unless (leb headerSize (length s)) tooShort
     (unless (magicOk s) wrongMagic
-    (unless (limitsOk m n r d) outOfLimits
+    (unless within outOfLimits
     (unless (layoutOk s n r d) wrongLayout
     (contentRefusal (codePart s n) (regionPart s n r) m n r d))))
+
+abbrev pub refusalWith : (s : List ℕ) (m n r d : ℕ) → Refusal
+refusalWith s m n r d = refusalBy (limitsOk m n r d) s m n r d
 
 unfoldable pub refusalOf : List ℕ → Refusal
 refusalOf s = refusalWith s (fieldM s) (fieldN s) (fieldR s) (fieldD s)
 
 -- ---- what the reader hands back
 -- M, N, R and D, zeros when refused, and the refusal
+abbrev pub headerWith : Refusal → List ℕ → Header
+headerWith refusal s =
+    cond (eqb (refusal .number) 0)
+    (record { m = fieldM s; n = fieldN s; r = fieldR s; d = fieldD s; refusal = refusal })
+    (record { m = 0; n = 0; r = 0; d = 0; refusal = refusal })
+
 unfoldable pub headerOf : List ℕ → Header
-headerOf s =
-    cond (eqb (refusalOf s .number) 0)
-    (record { m = fieldM s; n = fieldN s; r = fieldR s; d = fieldD s; refusal = refusalOf s })
-    (record { m = 0; n = 0; r = 0; d = 0; refusal = refusalOf s })
+headerOf s = headerWith (refusalOf s) s
 
 -- the code as a part of the image: N is 0 when refused, and the part empty
 unfoldable pub codeOf : List ℕ → List ℕ

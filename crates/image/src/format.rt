@@ -50,6 +50,9 @@ pub const FRAME_REGISTER: usize = 15;
 // How many output ports an instruction can name.
 pub const PORTS: u32 = 8;
 
+// The halves of the range of OPEN and CLOSE: its start is the low one, its length the high one.
+pub const HALF: u32 = 0x1_0000;
+
 // The most bytes that an image has.
 pub const LARGEST: usize = HEADER
     + INSTRUCTION * (MOST_N as usize)

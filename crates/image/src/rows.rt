@@ -8,6 +8,7 @@ use super::Operation;
 use super::Widening;
 use super::Width;
 use super::format;
+use super::format::HALF;
 use super::format::INSTRUCTION;
 use super::format::PORTS;
 use super::ops;
@@ -33,9 +34,6 @@ enum Row {
 const REGISTERS: u8 = format::REGISTERS as u8;
 
 const FRAME_REGISTER: u8 = format::FRAME_REGISTER as u8;
-
-// The halves of imm: a range's start is the low one, its length the high one.
-const HALF: u32 = 0x1_0000;
 
 fn row_of(op: u8) -> Row
     ensures { λ r. ⌜ r ≡ rowOf op ⌝ }

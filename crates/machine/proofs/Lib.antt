@@ -10,6 +10,7 @@ pub mod StepLaw
 pub mod BeginningLaw
 pub mod BeginningBytes
 pub mod CallLaws
+pub mod Former
 pub mod AllowedRuns
 pub mod Continued
 pub mod FrameLaws

@@ -58,18 +58,24 @@ marksOk memA = every (λ k. leb (getD memA k 0) 1) (length memA)
 abbrev pub countsOk : (n places : ℕ) → Counts → Bool
 countsOk n places c = leb (c .index) n && leb (c .outputs) places && leb (c .reports) (2 * c .steps)
 
--- ---- the refusals, the first that applies in number order
-unfoldable pub beginRefusal : (s mem memV memA : List ℕ) → Refusal
-beginRefusal s mem memV memA = orElse (refusalOf s) (unless (buffersOk (fieldM s) mem memV memA) wrongSize accepted)
+-- ---- the refusals, the first that applies in number order: after that of reading
+abbrev pub beginRefusalAfter : (reading : Refusal) (s mem memV memA : List ℕ) → Refusal
+beginRefusalAfter reading s mem memV memA = orElse reading (unless (buffersOk (fieldM s) mem memV memA) wrongSize accepted)
 
-unfoldable pub runRefusal : List ℕ → World → ℕ → Refusal
-runRefusal s w budget =
-    orElse (refusalOf s)
+unfoldable pub beginRefusal : (s mem memV memA : List ℕ) → Refusal
+beginRefusal s mem memV memA = beginRefusalAfter (refusalOf s) s mem memV memA
+
+abbrev pub runRefusalAfter : (reading : Refusal) → List ℕ → World → ℕ → Refusal
+runRefusalAfter reading s w budget =
+    orElse reading
     (unless (sizesOk (fieldM s) w) wrongSize
     (unless (leb (w .counts .steps + budget) mostSteps) tooManySteps
     (unless (marksOk (w .parts .memA)) wrongMark
     (unless (countsOk (fieldN s) (outputPlaces (w .outputList)) (w .counts)) wrongCount
     accepted))))
+
+unfoldable pub runRefusal : List ℕ → World → ℕ → Refusal
+runRefusal s w budget = runRefusalAfter (refusalOf s) s w budget
 
 -- ---- the answers
 -- of a beginning: the refusal, the state and the three buffers
@@ -79,15 +85,18 @@ pub record Began : Type 0 where
   pub counts : Counts
 
 -- refused: a state of all zeros, and the buffers as they were
-unfoldable pub beginAnswer : (s regs mem memV memA : List ℕ) → Began
-beginAnswer s regs mem memV memA =
-    cond (eqb (beginRefusal s mem memV memA .number) 0)
+abbrev pub beginAnswerWith : Refusal → (s regs mem memV memA : List ℕ) → Began
+beginAnswerWith refusal s regs mem memV memA =
+    cond (eqb (refusal .number) 0)
     (record { refusal = accepted; parts = begunParts s regs mem; counts = zeroCounts })
     (record {
-      refusal = beginRefusal s mem memV memA;
+      refusal = refusal;
       parts = parts (replicate registers 0) (replicate registers 0) mem memV memA;
       counts = zeroCounts;
     })
+
+unfoldable pub beginAnswer : (s regs mem memV memA : List ℕ) → Began
+beginAnswer s regs mem memV memA = beginAnswerWith (beginRefusal s mem memV memA) s regs mem memV memA
 
 -- of a run: the refusal, the stop reason, and the state with buffers and lists
 pub record Ran : Type 0 where
@@ -99,8 +108,11 @@ abbrev pub answered : Ended World → Ran
 answered x = record { refusal = accepted; reason = x .reason; world = x .state }
 
 -- refused: stop reason 0, and everything as it was
-unfoldable pub runAnswer : List ℕ → World → ℕ → Ran
-runAnswer s w budget =
-    cond (eqb (runRefusal s w budget .number) 0)
+abbrev pub runAnswerWith : Refusal → List ℕ → World → ℕ → Ran
+runAnswerWith refusal s w budget =
+    cond (eqb (refusal .number) 0)
     (answered (runOf (programOf s) budget w))
-    (record { refusal = runRefusal s w budget; reason = 0; world = w })
+    (record { refusal = refusal; reason = 0; world = w })
+
+unfoldable pub runAnswer : List ℕ → World → ℕ → Ran
+runAnswer s w budget = runAnswerWith (runRefusal s w budget) s w budget

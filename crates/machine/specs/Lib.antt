@@ -8,6 +8,7 @@ pub mod Runs
 pub mod Checker
 pub mod Bare
 pub mod Calls
+pub mod Former
 pub mod Allowed
 pub mod Frame
 pub mod Cases

@@ -1,7 +1,7 @@
 use borrow.Author.Needs.{needs}
 use mathlib.Core.Path.{refl}
-use Rattle.checker.proofs.dispatch.field.Statement.{statement}
-use Rattle.checker.proofs.dispatch.field.Tie as tie
+use Rattle.checker.proofs.fields.field.Statement.{statement}
+use Rattle.checker.proofs.fields.field.Tie as tie
 
 pub field-spec : {M : Type 1} → statement M
 field-spec =

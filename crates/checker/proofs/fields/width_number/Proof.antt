@@ -1,7 +1,7 @@
 use borrow.Author.Needs.{needs}
-use Rattle.checker.proofs.DispatchLaws.{width-bits}
-use Rattle.checker.proofs.dispatch.width_number.Statement.{statement}
-use Rattle.checker.proofs.dispatch.width_number.Tie as tie
+use Rattle.checker.proofs.FieldLaws.{width-bits}
+use Rattle.checker.proofs.fields.width_number.Statement.{statement}
+use Rattle.checker.proofs.fields.width_number.Tie as tie
 
 pub width-number-spec : {M : Type 1} → statement M
 width-number-spec =

@@ -1,6 +1,6 @@
-use Rattle.checker.proofs.DispatchLaws.{widens-by-sign, widens-below, widens-above}
-use Rattle.checker.proofs.dispatch.widening_of.Statement.{statement}
-use Rattle.checker.proofs.dispatch.widening_of.Tie as tie
+use Rattle.checker.proofs.FieldLaws.{widens-by-sign, widens-below, widens-above}
+use Rattle.checker.proofs.fields.widening_of.Statement.{statement}
+use Rattle.checker.proofs.fields.widening_of.Tie as tie
 
 pub widening-of-spec : {M : Type 1} → statement M
 widening-of-spec =

@@ -1,7 +1,7 @@
 use lib.Dec.{eqb}
-use Rattle.checker.proofs.DispatchLaws.{or-three}
-use Rattle.checker.proofs.dispatch.is_store.Statement.{statement}
-use Rattle.checker.proofs.dispatch.is_store.Tie as tie
+use Rattle.checker.proofs.FieldLaws.{or-three}
+use Rattle.checker.proofs.fields.is_store.Statement.{statement}
+use Rattle.checker.proofs.fields.is_store.Tie as tie
 
 pub is-store-spec : {M : Type 1} → statement M
 is-store-spec =

@@ -6,8 +6,8 @@ use mathlib.Core.Path.{_≡_}
 use Rattle.rules.specs.Bytes.{joined}
 use Rattle.image.specs.Format.{instructionSize}
 use Rattle.image.specs.Words.{nthWord}
-use Rattle.checker.proofs.dispatch.imm.Statement.{statement}
-use Rattle.checker.proofs.dispatch.imm.Tie as tie
+use Rattle.checker.proofs.fields.imm.Statement.{statement}
+use Rattle.checker.proofs.fields.imm.Tie as tie
 
 pub imm-spec : {M : Type 1} → statement M
 unfolding nthWord joined

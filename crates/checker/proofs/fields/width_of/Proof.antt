@@ -1,7 +1,7 @@
 use borrow.Author.Needs.{needs}
-use Rattle.checker.proofs.DispatchLaws.{width-byte, width-word, width-half}
-use Rattle.checker.proofs.dispatch.width_of.Statement.{statement}
-use Rattle.checker.proofs.dispatch.width_of.Tie as tie
+use Rattle.checker.proofs.FieldLaws.{width-byte, width-word, width-half}
+use Rattle.checker.proofs.fields.width_of.Statement.{statement}
+use Rattle.checker.proofs.fields.width_of.Tie as tie
 
 pub width-of-spec : {M : Type 1} → statement M
 width-of-spec =
