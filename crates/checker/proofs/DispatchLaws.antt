@@ -12,7 +12,6 @@ use Rattle.rules.specs.declared.Operation.{Operation}
 use Rattle.rules.specs.declared.Operation.the-variants.{Add, Sub, Mul, And, Or, Xor, Shl, Shr, Sar, Eq, Ltu}
 use Rattle.image.specs.Rows.{rowOf, literalMark, rangeStart, rangeLength, operandOf, built, Fields, fieldsAt}
 use Rattle.image.specs.Encoding.{opOf, ops}
-use Rattle.image.specs.declared.Operand.{Operand}
 use Rattle.image.specs.declared.Operand.the-variants.{Register, Literal}
 use Rattle.image.specs.declared.Width.{Width}
 use Rattle.image.specs.declared.Widening.{Widening}

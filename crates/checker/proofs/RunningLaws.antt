@@ -22,7 +22,7 @@ use Rattle.machine.specs.Checker.{counted, stepped, reasonOf, nextOf, runOf}
 use Rattle.machine.specs.Calls.{mostSteps}
 use Rattle.machine.specs.Allowed.{Runnable}
 use Rattle.machine.proofs.RunLaws.{halts, goes-on as goes-on-by}
-use Rattle.machine.proofs.CheckerLaws.{Goes, reason-goes}
+use Rattle.machine.proofs.CheckerLaws.{reason-goes}
 use Rattle.machine.proofs.ListLaws.{length-reports-entered, length-outputs-entered}
 use Rattle.machine.proofs.Continued.{step-runnable}
 use Rattle.checker.specs.declared.Counts.{Counts}

@@ -8,7 +8,7 @@ use lib.ListN.{length, getD, set}
 use lib.Dec.{eqb, leb}
 use Rattle.rules.specs.declared.Operation.{Operation}
 use Rattle.image.specs.Format.{instructionSize}
-use Rattle.image.specs.Rows.{rangeStart, rangeLength, operandOf, Fields, fieldsAt, builtFrom}
+use Rattle.image.specs.Rows.{rangeStart, rangeLength, operandOf, fieldsAt, builtFrom}
 use Rattle.image.specs.Encoding.{ops}
 use Rattle.image.specs.Accepted.{Fits}
 use Rattle.image.specs.declared.Width.{Width}
@@ -121,25 +121,15 @@ pub record Ready (n m : ℕ) (c : Counts) (p : Parts) (reports outputs : List �
 unfoldable pub standing : (code : List ℕ) (index : ℕ) → Instruction
 standing code index = builtFrom (fieldsAt code index)
 
--- of MOV, and of an operation
+-- what they make where the op is MOV; where it is an operation's; where it is OPEN or CLOSE
 unfoldable pub moveAt : (code : List ℕ) (index : ℕ) → Instruction
-moveAt code index = Move (f .d) (operandOf (f .b) (f .imm))
-  where
-    f : Fields
-    f = fieldsAt code index
+moveAt code index = let f = fieldsAt code index in Move (f .d) (operandOf (f .b) (f .imm))
 
 unfoldable pub computeAt : Operation → (code : List ℕ) (index : ℕ) → Instruction
-computeAt op code index = Compute op (f .d) (f .a) (operandOf (f .b) (f .imm))
-  where
-    f : Fields
-    f = fieldsAt code index
+computeAt op code index = let f = fieldsAt code index in Compute op (f .d) (f .a) (operandOf (f .b) (f .imm))
 
--- OPEN and CLOSE
 unfoldable pub markAt : Bool → (code : List ℕ) (index : ℕ) → Instruction
-markAt addressable code index = Mark addressable (rangeStart (f .imm)) (rangeLength (f .imm))
-  where
-    f : Fields
-    f = fieldsAt code index
+markAt addressable code index = let f = fieldsAt code index in Mark addressable (rangeStart (f .imm)) (rangeLength (f .imm))
 
 -- r is byte k of the instruction at an index; r is its word imm
 pub record ByteIs (code : List ℕ) (index k r : ℕ) : Type 0 where
@@ -169,14 +159,17 @@ pub record IsAccess (op : ℕ) : Type 0 where
 abbrev pub widthNumber : ℕ → ℕ
 widthNumber op = cond (eqb op 14 || eqb op 16) 1 (cond (eqb op 21 || eqb op 23 || eqb op 24) 2 0)
 
+abbrev pub widthBy : ℕ → Width
+widthBy number = cond (eqb number 0) Byte (cond (eqb number 1) Word Half)
+
 abbrev pub widthOf : ℕ → Width
-widthOf op = cond (eqb (widthNumber op) 0) Byte (cond (eqb (widthNumber op) 1) Word Half)
+widthOf op = widthBy (widthNumber op)
 
 -- LDS8 and LDS16 copy the top bit
 abbrev pub wideningOf : ℕ → Widening
 wideningOf op = cond (eqb op 22 || eqb op 23) Sign Zero
 
--- at an index below N there is an instruction with fields in range, in an image of n instructions and m bytes of memory
+-- at an index there is an instruction with fields in range, in an image of n instructions and m bytes of memory; and at each below n
 pub record Reads (code : List ℕ) (n m index : ℕ) : Type 0 where
   pub there : index < length code / instructionSize
   pub known : fieldsAt code index .op < ops

@@ -77,7 +77,7 @@ fn on_literal(
 }
 
 // An operation on a register and B. The two functions above, which it calls, stand by themselves: without
-// them the code of every step has six instructions more.
+// them a step's code has six instructions more (docs/SPEED.md).
 fn computes(
     c: Counts,
     op: Operation,

@@ -1,5 +1,5 @@
 // An instruction where it stands, in the image's code: its fields, and what the op of a load or store
-// says. A run reads no more of an instruction than its step uses, and keeps no copy of the program.
+// says. A step reads no more of its instruction than it uses, and a run keeps no copy of the program.
 use image::Widening;
 use image::Width;
 use image::format::INSTRUCTION;

@@ -45,7 +45,7 @@ fn reason_of(op: u8, outputs: u32, places: usize, otherwise: u8) -> u8
     }
 }
 
-// The budget is asked first, so that with some left the op alone decides.
+// The budget is asked first, so that with some left nothing stands between the op and its step.
 fn reason_at(op: u8, outputs: u32, places: usize, left: u32) -> u8
     ensures { λ r. ⌜ r ≡ reasonBy op places outputs (cond (eqb left 0) noBudget goesOn) ⌝ }
 {

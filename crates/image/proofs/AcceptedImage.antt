@@ -10,7 +10,7 @@ use lib.Dec.{leb, eqb, lit<}
 use lib.ListN.{length, getD, take}
 use lib.Seq.{ext-getD, getD-take, length-take-le}
 use borrow.Author.Tests.{leb-true, eqb-true, le-leb, eq-eqb}
-use Rattle.image.specs.Format.{magic, largest, headerSize, instructionSize, regionSize, mostM, mostN, mostR, mostD, regionsAt, dataAt, sizeOf, fieldM, fieldN, fieldR, fieldD, codeOffset, regionOffset, dataOffset, magicOk, limitsOk, layoutOk, codePart, regionPart, dataPart}
+use Rattle.image.specs.Format.{magic, largest, headerSize, instructionSize, regionSize, mostM, mostN, mostR, mostD, regionsAt, dataAt, sizeOf, fieldM, fieldN, fieldR, fieldD, codeOffset, regionOffset, dataOffset, magicOk, limitsWithin, limitsOk, layoutOk, codePart, regionPart, dataPart}
 use Rattle.image.specs.Regions.{filledKind, undefinedKind, regionAt, endOf, endBefore, regionKeeps, regionOk, filledSum}
 use Rattle.image.specs.Refusals.{tooShort, wrongMagic, outOfLimits, wrongLayout, badInstruction, badRegion, wrongSum, accepted, orElse, isValid, instructionOk, codeRefusal, regionRefusal, sumRefusal, contentRefusal, refusalWith, refusalOf, headerOf, codeOf}
 use Rattle.image.specs.Accepted.{Limits, Layout, Keeps, AcceptedWith, Accepted}
@@ -24,19 +24,18 @@ use Rattle.image.proofs.Tests.{apart, both, all-four, either}
 use Rattle.image.proofs.Faults.{passed, both-passed, no-fault, all-pass}
 
 -- ---- the tests, as facts
+pub within-holds : (topM topN topR topD m n r d : ℕ) → limitsWithin topM topN topR topD m n r d ≡ true
+    → ((1 ≤ m) × (m ≤ topM)) × ((1 ≤ n) × (n ≤ topN)) × (r ≤ topR) × (d ≤ topD)
+within-holds topM topN topR topD m n r d h =
+    let e6 = both _ (leb d topD) h in
+    let e5 = both _ (leb r topR) (e6 .0) in
+    let e = all-four (leb 1 m) (leb m topM) (leb 1 n) (leb n topN) (e5 .0) in
+    ((leb-true _ _ (e .0), leb-true _ _ (e .1)), (leb-true _ _ (e .2), leb-true _ _ (e .3)), leb-true _ _ (e5 .1), leb-true _ _ (e6 .1))
+
 pub limits-hold : (m n r d : ℕ) → limitsOk m n r d ≡ true → Limits m n r d
 limits-hold m n r d h =
-    let e6 = both _ (leb d mostD) h in
-    let e5 = both _ (leb r mostR) (e6 .0) in
-    let e = all-four (leb 1 m) (leb m mostM) (leb 1 n) (leb n mostN) (e5 .0) in
-    record {
-      some-memory = leb-true _ _ (e .0);
-      memory = leb-true _ _ (e .1);
-      some-code = leb-true _ _ (e .2);
-      code = leb-true _ _ (e .3);
-      regions = leb-true _ _ (e5 .1);
-      held = leb-true _ _ (e6 .1);
-    }
+    let w = within-holds mostM mostN mostR mostD m n r d h in
+    record { some-memory = w .0 .0; memory = w .0 .1; some-code = w .1 .0; code = w .1 .1; regions = w .2; held = w .3 }
 
 pub limits-pass : {m n r d : ℕ} → Limits m n r d → limitsOk m n r d ≡ true
 limits-pass l =

@@ -87,8 +87,12 @@ abbrev pub magicOk : List ℕ → Bool
 magicOk s =
     eqb (getD s 0 0) (getD magic 0 0) && eqb (getD s 1 0) (getD magic 1 0) && eqb (getD s 2 0) (getD magic 2 0) && eqb (getD s 3 0) (getD magic 3 0)
 
+-- M and N are at least 1; and the most that each may be
+abbrev pub limitsWithin : (topM topN topR topD m n r d : ℕ) → Bool
+limitsWithin topM topN topR topD m n r d = leb 1 m && leb m topM && leb 1 n && leb n topN && leb r topR && leb d topD
+
 abbrev pub limitsOk : ℕ → ℕ → ℕ → ℕ → Bool
-limitsOk m n r d = leb 1 m && leb m mostM && leb 1 n && leb n mostN && leb r mostR && leb d mostD
+limitsOk = limitsWithin mostM mostN mostR mostD
 
 -- the three offsets and the length are as computed
 abbrev pub layoutOk : List ℕ → ℕ → ℕ → ℕ → Bool

@@ -1,12 +1,7 @@
 -- Images that keep the limits of document 01 are answered as they were.
-use Prim.Native.Nat.{ℕ}
-use mathlib.Core.Path.{_≡_, sym, ap, _∙_}
-use mathlib.Core.List.{List}
-use Rattle.image.specs.Refusals.{refusalOf}
-use Rattle.image.specs.Former.{formerRefusal}
+use mathlib.Core.Path.{ap, _∙_}
 use Rattle.image.specs.declared.Refusal.{Refusal}
-use Rattle.image.proofs.Former.{read-as-before, header-as-before, accepted-kept}
-use Rattle.machine.specs.Machine.{World}
+use Rattle.image.proofs.Former.{read-as-before, header-as-before, code-as-before, accepted-kept}
 use Rattle.machine.specs.Calls.{beginRefusalAfter, beginRefusal, runRefusalAfter, runRefusal, beginAnswerWith, beginAnswer, runAnswerWith, runAnswer}
 use Rattle.machine.specs.Former.{formerBeginAnswer, formerRunAnswer, AsBefore}
 
@@ -17,6 +12,7 @@ as-before =
       kept = accepted-kept;
       accepted = λ s h. ap (λ (r : Refusal). r .number) (read-as-before s (accepted-kept s h)) ∙ h;
       reads = header-as-before;
+      hands = code-as-before;
       begins = λ s regs mem memV memA h.
           ap (λ (r : Refusal). beginAnswerWith (beginRefusalAfter r s mem memV memA) s regs mem memV memA) (read-as-before s h);
       runs = λ s w budget h. ap (λ (r : Refusal). runAnswerWith (runRefusalAfter r s w budget) s w budget) (read-as-before s h);

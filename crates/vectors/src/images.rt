@@ -75,7 +75,8 @@ fn put_region(image: &mut [u8], at: u16, start: u32, size: u32, kind: u32) {
 // A byte of the example and its new value, and another; or the same one twice.
 struct Change(u8, u8, u8, u8);
 
-// Where the rows of the second table begin, and how many both have.
+// The changes stand in two tables, since a check takes by the square of a table's length: where the rows
+// of the second begin, and how many both have.
 const CONTENT_FROM: usize = 20;
 
 const CHANGED: usize = 41;

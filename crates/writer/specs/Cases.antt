@@ -105,7 +105,7 @@ roomCases =
     ∷ refuses 1 stop [] [] 0 12 0
     ∷ []
 
--- 3: M, N, R and D out of limits; N 513 and 2,048 are within, and the first instruction has op 25; and so are D 4,097 and 8,192, which no region takes
+-- 3: M, N, R and D out of limits. N 513 and 2,048 are within: 5, since the first instruction has op 25. So are D 4,097 and 8,192: 7, since no region takes the data
 abbrev pub limitCases : List WriteCase
 limitCases =
     refuses 0 stop [] [] 40 3 0

@@ -1,4 +1,5 @@
-use Rattle.checker.proofs.FieldLaws.{widens-by-sign, widens-below, widens-above}
+use mathlib.Core.Logic.{inl, inr}
+use Rattle.checker.proofs.FieldLaws.{widens-by-sign, widens-by-zero}
 use Rattle.checker.proofs.fields.widening_of.Statement.{statement}
 use Rattle.checker.proofs.fields.widening_of.Tie as tie
 
@@ -7,5 +8,5 @@ widening-of-spec =
     tie.close
     (tie.spec
     (λ c. widens-by-sign _ (c .before .if1 .left) (c .if2 .taken))
-    (λ c. widens-below _ (c .if1 .taken))
-    (λ c. widens-above _ (c .if2 .left)))
+    (λ c. widens-by-zero _ (inl (c .if1 .taken)))
+    (λ c. widens-by-zero _ (inr (c .if2 .left))))

@@ -1,5 +1,5 @@
 use borrow.Author.Needs.{needs}
-use Rattle.checker.proofs.FieldLaws.{width-byte, width-word, width-half}
+use Rattle.checker.proofs.FieldLaws.{width-found, width-half}
 use Rattle.checker.proofs.fields.width_of.Statement.{statement}
 use Rattle.checker.proofs.fields.width_of.Tie as tie
 
@@ -8,6 +8,6 @@ width-of-spec =
     tie.close
     (tie.spec
     (λ c κs. search needs)
-    (λ c. let s : tie.Start = search in let n : tie.After-width-number = search in width-byte (s .args .op) (n .width-number .ensures) (c .match .keys1))
-    (λ c. let s : tie.Start = search in let n : tie.After-width-number = search in width-word (s .args .op) (n .width-number .ensures) (c .match .keys2))
+    (λ c. let s : tie.Start = search in let n : tie.After-width-number = search in width-found (s .args .op) (n .width-number .ensures) 0 (c .match .keys1))
+    (λ c. let s : tie.Start = search in let n : tie.After-width-number = search in width-found (s .args .op) (n .width-number .ensures) 1 (c .match .keys2))
     (λ c. let s : tie.Start = search in let n : tie.After-width-number = search in width-half (s .args .op) (n .width-number .ensures) (c .match .rest .0 .1) (c .match .rest .1)))
