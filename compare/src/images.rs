@@ -7,10 +7,19 @@ pub const MAGIC: [u8; 4] = [0x54, 0x55, 0x4E, 0x31];
 pub const HEADER_BYTES: usize = 32;
 pub const ROW_BYTES: usize = 8;
 pub const REGION_BYTES: usize = 12;
-pub const MOST_MEMORY: u32 = 4096;
-pub const MOST_ROWS: u32 = 512;
+
+/// The limits of M, N, R and D (document 01; document 02, L5), and the bytes of the largest image.
+pub const MOST_MEMORY: u32 = 8192;
+pub const MOST_ROWS: u32 = 2048;
 pub const MOST_REGIONS: u32 = 32;
-pub const MOST_DATA: u32 = 4096;
+pub const MOST_DATA: u32 = 8192;
+pub const MOST_BYTES: usize = 24_992;
+
+/// What they were before L5: no edges any more, unless one of them is forgotten somewhere.
+pub const FORMER_MEMORY: u32 = 4096;
+pub const FORMER_ROWS: u32 = 512;
+pub const FORMER_DATA: u32 = 4096;
+pub const FORMER_BYTES: usize = 8_608;
 
 /// The frame register, to which no result goes (document 02, L9).
 pub const FRAME: u8 = 15;

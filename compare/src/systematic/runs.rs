@@ -3,7 +3,7 @@
 use super::{begun, rules, small_image, three_rows, Choices, M};
 use crate::cases::{self, Budget, Call, Case};
 use crate::edges;
-use crate::images::{op, Image, Operand, Row, FRAME, MOST_MEMORY, MOST_ROWS};
+use crate::images::{op, Image, Operand, Row, FORMER_ROWS, FRAME, MOST_MEMORY, MOST_ROWS};
 use crate::prng::Prng;
 use crate::programs::{ACCESSES, ARITHMETIC, STORES};
 use crate::types::State;
@@ -14,7 +14,7 @@ fn one_step(prng: &mut Prng, rows: Vec<Row>, known: &[(u8, u32, u32)]) -> Case {
     one_step_of(prng, &image, known)
 }
 
-fn one_step_of(prng: &mut Prng, image: &Image, known: &[(u8, u32, u32)]) -> Case {
+pub fn one_step_of(prng: &mut Prng, image: &Image, known: &[(u8, u32, u32)]) -> Case {
     let mut desk = cases::desk(prng, image.bytes(), image.m);
     desk.state = State { regs: cases::registers(prng, image.m), ..State::default() };
     desk.state.vregs = std::array::from_fn(|_| edges::shadow(prng));
@@ -67,7 +67,7 @@ pub fn access(choices: &mut Choices, prng: &mut Prng) -> Case {
 }
 
 /// Four bytes from an address on, as far as there are such.
-fn set_bytes(buffer: &mut [u8], address: u32, bytes: [u8; 4]) {
+pub fn set_bytes(buffer: &mut [u8], address: u32, bytes: [u8; 4]) {
     for (k, byte) in bytes.into_iter().enumerate() {
         if let Some(place) = buffer.get_mut(address as usize + k) {
             *place = byte;
@@ -76,7 +76,7 @@ fn set_bytes(buffer: &mut [u8], address: u32, bytes: [u8; 4]) {
 }
 
 /// The A of four bytes, 0 where a bit is set.
-fn marks(unaddressable: u32) -> [u8; 4] {
+pub fn marks(unaddressable: u32) -> [u8; 4] {
     std::array::from_fn(|k| u8::from(unaddressable & (1 << k) == 0))
 }
 
@@ -104,8 +104,9 @@ pub fn width(choices: &mut Choices, prng: &mut Prng) -> Case {
 }
 
 pub fn jump(choices: &mut Choices, prng: &mut Prng) -> Case {
-    let n = choices.pick(&[4, MOST_ROWS]);
-    let places = [0, n / 2 - 1, n / 2, n - 2, n - 1, n];
+    let n = choices.pick(&[4, FORMER_ROWS + 1, MOST_ROWS]);
+    let former = FORMER_ROWS.min(n - 1);
+    let places = [0, n / 2 - 1, n / 2, former - 1, former, n - 2, n - 1, n];
     let from = choices.pick(&places[..places.len() - 1]);
     let to = choices.pick(&places);
     let x = choices.pick(&[0, 1, 0x100, 0x8000_0000]);
@@ -155,12 +156,17 @@ pub fn frame_used(choices: &mut Choices, prng: &mut Prng) -> Case {
     one_step(prng, vec![row, Row::stop()], &known)
 }
 
-/// Buffers that do not fit the beginning, or the run after a beginning that they do fit.
 pub fn buffers(choices: &mut Choices, prng: &mut Prng) -> Case {
     let image = small_image(prng, three_rows());
-    let mut case = begun(prng, &image, &[5]);
+    buffers_of(choices, prng, &image, &[M, 0, M - 1, M + 1, 2 * M])
+}
+
+/// Buffers of each of these lengths, some of which do not fit the beginning, or the run after a beginning
+/// that they do fit.
+pub fn buffers_of(choices: &mut Choices, prng: &mut Prng, image: &Image, lengths: &[u32]) -> Case {
+    let mut case = begun(prng, image, &[5]);
     for of in [0, 1, 2] {
-        let length = choices.pick(&[M, 0, M - 1, M + 1, 2 * M]) as usize;
+        let length = choices.pick(lengths) as usize;
         let desk = &mut case.desk;
         [&mut desk.mem, &mut desk.v, &mut desk.a][of].resize(length, 1);
     }
