@@ -55,25 +55,25 @@ extern "C" {
  * bits, by which it reports less. A program that loads the library while it runs asks for the
  * symbols below by their whole names.
  */
-#define UVIKTALIK_VERSION 1
-#define uviktalik_read uviktalik_read_1
-#define uviktalik_begin uviktalik_begin_1
-#define uviktalik_run uviktalik_run_1
-#define uviktalik_write uviktalik_write_1
+#define UVIKTALIK_VERSION 2
+#define uviktalik_read uviktalik_read_2
+#define uviktalik_begin uviktalik_begin_2
+#define uviktalik_run uviktalik_run_2
+#define uviktalik_write uviktalik_write_2
 
 /* Limits. M, N, R and D are an image's sizes. */
 enum {
     UVIKTALIK_REGISTERS = 16,
-    UVIKTALIK_FRAME_REGISTER = 15,    /* defined at a beginning; no instruction may write it */
-    UVIKTALIK_PORTS = 8,              /* output ports: 0 to 7 */
-    UVIKTALIK_MAX_MEMORY = 4096,      /* M, the bytes of memory: 1 to this */
-    UVIKTALIK_MAX_INSTRUCTIONS = 512, /* N, the instructions: 1 to this */
-    UVIKTALIK_MAX_REGIONS = 32,       /* R, the regions of memory: 0 to this */
-    UVIKTALIK_MAX_DATA = 4096,        /* D, the bytes that fill regions: 0 to this */
-    UVIKTALIK_MAX_IMAGE = 8608,       /* the bytes of an image */
-    UVIKTALIK_MAX_STEPS = 1000000,    /* the steps of all runs after a beginning */
-    UVIKTALIK_MAX_REPORT_LIST = 256,  /* the words of a report list: 64 reports */
-    UVIKTALIK_MAX_OUTPUT_LIST = 512   /* the words of an output list: 256 outputs */
+    UVIKTALIK_FRAME_REGISTER = 15,     /* defined at a beginning; no instruction may write it */
+    UVIKTALIK_PORTS = 8,               /* output ports: 0 to 7 */
+    UVIKTALIK_MAX_MEMORY = 8192,       /* M, the bytes of memory: 1 to this */
+    UVIKTALIK_MAX_INSTRUCTIONS = 2048, /* N, the instructions: 1 to this */
+    UVIKTALIK_MAX_REGIONS = 32,        /* R, the regions of memory: 0 to this */
+    UVIKTALIK_MAX_DATA = 8192,         /* D, the bytes that fill regions: 0 to this */
+    UVIKTALIK_MAX_IMAGE = 24992,       /* the bytes of an image */
+    UVIKTALIK_MAX_STEPS = 1000000,     /* the steps of all runs after a beginning */
+    UVIKTALIK_MAX_REPORT_LIST = 256,   /* the words of a report list: 64 reports */
+    UVIKTALIK_MAX_OUTPUT_LIST = 512    /* the words of an output list: 256 outputs */
 };
 
 /* The numbers that reading leaves of an image. */

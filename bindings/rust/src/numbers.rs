@@ -13,7 +13,7 @@ macro_rules! numbers {
 
 numbers! {
     /// The version of the interface that this binding declares.
-    VERSION: u32 = 1;
+    VERSION: u32 = 2;
 
     /// How many registers there are.
     REGISTERS: usize = 16;
@@ -22,15 +22,15 @@ numbers! {
     /// How many output ports there are, from 0 on.
     PORTS: u32 = 8;
     /// The most bytes of memory, M; the least is 1.
-    MAX_MEMORY: usize = 4_096;
+    MAX_MEMORY: usize = 8_192;
     /// The most instructions, N; the least is 1.
-    MAX_INSTRUCTIONS: usize = 512;
+    MAX_INSTRUCTIONS: usize = 2_048;
     /// The most regions of memory, R.
     MAX_REGIONS: usize = 32;
     /// The most bytes that fill regions, D.
-    MAX_DATA: usize = 4_096;
+    MAX_DATA: usize = 8_192;
     /// The most bytes of an image.
-    MAX_IMAGE: usize = 8_608;
+    MAX_IMAGE: usize = 24_992;
     /// The most steps of all runs after a beginning.
     MAX_STEPS: u32 = 1_000_000;
     /// The most words of a report list.

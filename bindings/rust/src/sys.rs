@@ -6,7 +6,7 @@ use crate::numbers::{HEADER_WORDS, REGISTERS, STATE_WORDS};
 extern "C" {
     pub fn uviktalik_version() -> u32;
 
-    #[link_name = "uviktalik_read_1"]
+    #[link_name = "uviktalik_read_2"]
     pub fn uviktalik_read(
         image: *const u8,
         image_size: usize,
@@ -15,7 +15,7 @@ extern "C" {
         fault: *mut usize,
     ) -> u8;
 
-    #[link_name = "uviktalik_begin_1"]
+    #[link_name = "uviktalik_begin_2"]
     pub fn uviktalik_begin(
         image: *const u8,
         image_size: usize,
@@ -30,7 +30,7 @@ extern "C" {
         fault: *mut usize,
     ) -> u8;
 
-    #[link_name = "uviktalik_run_1"]
+    #[link_name = "uviktalik_run_2"]
     pub fn uviktalik_run(
         image: *const u8,
         image_size: usize,
@@ -50,7 +50,7 @@ extern "C" {
         fault: *mut usize,
     ) -> u8;
 
-    #[link_name = "uviktalik_write_1"]
+    #[link_name = "uviktalik_write_2"]
     pub fn uviktalik_write(
         m: u32,
         instructions: *const u32,

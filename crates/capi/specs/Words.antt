@@ -14,7 +14,7 @@ use Rattle.writer.specs.Writing.{Written}
 
 -- which parameters, words of a state, words of a list's entry and limits these are: the number at the end of the calls' names
 abbrev pub version : ℕ
-version = 1
+version = 2
 
 abbrev pub stateSize : ℕ
 stateSize = 36

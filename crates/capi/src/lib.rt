@@ -19,7 +19,7 @@ ghost use Rattle.capi.specs.Promises.{ReadPromise, BeginPromise, RunProm
 
 // The number at the end of the calls' names. It goes up when their parameters change, or the words of
 // a state, or those of a list's entry, or a limit.
-const VERSION: u32 = 1;
+const VERSION: u32 = 2;
 
 // The words of a state: 16 registers, their 16 V words, and the four counts.
 const STATE: usize = 36;
@@ -118,7 +118,7 @@ pub extern "C" fn uviktalik_version() -> u32
 // Reads an image: M, N, R and D to header, where the code begins and how many bytes it has to code,
 // zeros when refused; the index at fault to fault. Returns 0 or the refusal's number.
 #[no_mangle]
-pub extern "C" fn uviktalik_read_1(
+pub extern "C" fn uviktalik_read_2(
     image: &[u8],
     header: &mut [u32; 4],
     code: &mut [usize; 2],
@@ -138,7 +138,7 @@ pub extern "C" fn uviktalik_read_1(
 // Begins a program, as `checker::begin` does: the state's words to state, the index at fault to
 // fault. Returns 0 or the refusal's number.
 #[no_mangle]
-pub extern "C" fn uviktalik_begin_1(
+pub extern "C" fn uviktalik_begin_2(
     image: &[u8],
     regs: &[u32; 16],
     mem: &mut [u8],
@@ -161,7 +161,7 @@ pub extern "C" fn uviktalik_begin_1(
 // left there, the stop reason to reason, the index at fault to fault. Returns 0 or the refusal's
 // number.
 #[no_mangle]
-pub extern "C" fn uviktalik_run_1(
+pub extern "C" fn uviktalik_run_2(
     image: &[u8],
     state: &mut [u32; STATE],
     mem: &mut [u8],
@@ -188,7 +188,7 @@ pub extern "C" fn uviktalik_run_1(
 // Writes an image, as `writer::write` does: how many bytes it has to size, 0 when refused, the index at
 // fault to fault. Returns 0 or the refusal's number.
 #[no_mangle]
-pub extern "C" fn uviktalik_write_1(
+pub extern "C" fn uviktalik_write_2(
     m: u32,
     instructions: &[u32],
     regions: &[u32],

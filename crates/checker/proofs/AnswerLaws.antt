@@ -1,13 +1,15 @@
 -- What the calls answer, from the refusal that was found.
-use Prim.Native.Nat.{ℕ, _≤_}
-use mathlib.Core.Path.{_≡_, sym, _∙_}
+use Prim.Native.Nat.{ℕ, _<_, _≤_}
+use mathlib.Core.Path.{_≡_, sym, _∙_, subst}
 use mathlib.Core.List.{List}
 use lib.ListN.{replicate}
 use borrow.Author.Tests.{eq-eqb, ne-eqb}
 use Rattle.image.specs.Words.{Bytes}
-use Rattle.image.specs.Format.{registers, mostN, fieldM, codePart}
+use Rattle.image.specs.Format.{registers, mostN, fieldM, fieldN, codePart}
+use Rattle.image.specs.Rows.{Fields}
+use Rattle.image.specs.Encoding.{ops}
 use Rattle.image.specs.Refusals.{accepted, headerOf}
-use Rattle.image.specs.Accepted.{Accepted}
+use Rattle.image.specs.Accepted.{Accepted, Fits}
 use Rattle.image.specs.declared.Refusal.{Refusal}
 use Rattle.image.specs.declared.Header.{Header}
 use Rattle.image.proofs.AcceptedImage.{image-accepted, accepted-header}
@@ -17,12 +19,12 @@ use Rattle.machine.specs.Runs.{ended}
 use Rattle.machine.specs.Checker.{runOf}
 use Rattle.machine.specs.Calls.{beginRefusal, runRefusal, beginAnswer, runAnswer}
 use Rattle.machine.specs.Allowed.{Allowed}
-use Rattle.machine.proofs.ProgramLaws.{program-fits}
+use Rattle.machine.proofs.ProgramLaws.{program-stands}
 use Rattle.machine.proofs.CallLaws.{BeginAllowed, begin-allowed, not-refused}
 use Rattle.machine.proofs.AllowedRuns.{allowed-run, run-allowed}
 use Rattle.checker.specs.declared.Counts.{Counts}
 use Rattle.checker.specs.Views.{world}
-use Rattle.checker.specs.Pieces.{Sizes, CodeFits, Ready}
+use Rattle.checker.specs.Pieces.{Sizes, standing, CodeReads, Ready}
 
 -- ---- beginning
 module _ (s mem memV memA : List ℕ) (refusal : Refusal) (e : refusal ≡ beginRefusal s mem memV memA) where
@@ -53,6 +55,18 @@ module _ (s mem memV memA : List ℕ) (refusal : Refusal) (e : refusal ≡ begin
     begins regs l = rw (begin-zero, l .0, l .1 .0, l .1 .1, e ∙ begin-passed)
 
 -- ---- running
+-- at each index of an accepted image's code there is an instruction
+code-reads : (s : List ℕ) → Bytes s → Accepted s → CodeReads (codePart s (fieldN s)) (fieldN s) (fieldM s)
+unfolding programOf standing
+code-reads s b a i l =
+    let p = program-stands s b a i l in
+    record {
+      there = p .0 .there;
+      known = subst (λ (f : Fields). f .op < ops) (sym (p .0 .same)) (p .0 .known);
+      same = p .1;
+      fits = subst (Fits (fieldN s) (fieldM s)) (p .1) (p .0 .fits);
+    }
+
 module _ (s : List ℕ) (found : Header) (f : found ≡ headerOf s) (c : Counts) (p : Parts) (reports outputs : List ℕ) (budget : ℕ)
     (refusal : Refusal) (e : refusal ≡ runRefusal s (world c p reports outputs) budget) where
   pub run-refused : (refusal .number ≡ 0 → ⊥) → record { refusal = refusal; reason = 0; world = world c p reports outputs } ≡ runAnswer s (world c p reports outputs) budget
@@ -70,11 +84,10 @@ module _ (s : List ℕ) (found : Header) (f : found ≡ headerOf s) (c : Counts)
     unfolding programOf
     its-program = rw (ec, f, accepted-header s (allowed .image))
 
-    pub may-run : Bytes s → (found .n ≤ mostN) × CodeFits code (found .n) (found .m) × Ready (found .n) (found .m) c p reports outputs budget
-    unfolding programOf
+    pub may-run : Bytes s → (found .n ≤ mostN) × CodeReads code (found .n) (found .m) × Ready (found .n) (found .m) c p reports outputs budget
     may-run b =
         rw (ec, f, accepted-header s (allowed .image))
-        (allowed .image .limits .code, program-fits s b (allowed .image), record { runnable = allowed .runnable; within = allowed .within })
+        (allowed .image .limits .code, code-reads s b (allowed .image), record { runnable = allowed .runnable; within = allowed .within })
 
     pub ran : {reason : ℕ} {w : World} → ended reason w ≡ runOf (programIn code (found .n) (found .m)) budget (world c p reports outputs)
         → record { refusal = refusal; reason = reason; world = w } ≡ runAnswer s (world c p reports outputs) budget

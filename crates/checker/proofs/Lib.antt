@@ -3,7 +3,6 @@ pub mod RangeLaws
 pub mod StepLaws
 pub mod GroupLaws
 pub mod DispatchLaws
-pub mod DecodingLaws
 pub mod RunningLaws
 pub mod BeginLaws
 pub mod RefusalLaws

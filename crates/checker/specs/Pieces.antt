@@ -1,27 +1,33 @@
 -- What the functions inside a step and a run ask for and promise: each touches a part of the machine. Private functions alone cite these
 -- definitions, so that nobody has to believe them: what `begin` and `run` promise is said by Views.antt and the crate `machine`.
-use Prim.Native.Nat.{ℕ, _+_, _^_, _<_, _≤_}
+use Prim.Native.Nat.{ℕ, _+_, _*_, _/_, _^_, _<_, _≤_}
 use mathlib.Core.Path.{_≡_}
-use mathlib.Core.Bool.{Bool, not}
-use mathlib.Core.List.{List, _++_}
+use mathlib.Core.Bool.{Bool, true, false, cond, not, _||_}
+use mathlib.Core.List.{List, [], _∷_, _++_}
 use lib.ListN.{length, getD, set}
+use lib.Dec.{eqb, leb}
+use Rattle.rules.specs.declared.Operation.{Operation}
+use Rattle.image.specs.Format.{instructionSize}
+use Rattle.image.specs.Rows.{rangeStart, rangeLength, operandOf, Fields, fieldsAt, builtFrom}
+use Rattle.image.specs.Encoding.{ops}
 use Rattle.image.specs.Accepted.{Fits}
 use Rattle.image.specs.declared.Width.{Width}
+use Rattle.image.specs.declared.Width.the-variants.{Byte, Half, Word}
+use Rattle.image.specs.declared.Widening.{Widening}
+use Rattle.image.specs.declared.Widening.the-variants.{Zero, Sign}
 use Rattle.image.specs.declared.Instruction.{Instruction}
-use Rattle.machine.specs.Machine.{Parts, parts, World, Program, programIn}
+use Rattle.image.specs.declared.Instruction.the-variants.{Move, Compute, Mark}
+use Rattle.machine.specs.Machine.{Parts, parts, World, programIn}
 use Rattle.machine.specs.Ranges.{allAddressable}
 use Rattle.machine.specs.Instructions.{addressOf, bytesOf}
 use Rattle.machine.specs.Steps.{Report, undefinedAddress, ifUndefined, ifBlocked}
 use Rattle.machine.specs.Lists.{reportsEntered}
-use Rattle.machine.specs.Runs.{goesOn, reasonAt}
+use Rattle.machine.specs.Runs.{goesOn, stopped, noPlace, reasonAt}
 use Rattle.machine.specs.Checker.{stepped}
 use Rattle.machine.specs.Calls.{mostSteps}
 use Rattle.machine.specs.Allowed.{Runnable}
 use Rattle.checker.specs.declared.Counts.{Counts}
-use Rattle.flat.specs.declared.Flat.{Flat}
-use Rattle.flat.specs.declared.Flat.the-variants as flat
 use Rattle.checker.specs.Views.{world}
-use Rattle.flat.specs.Meaning.{meaning}
 
 -- ---- the counts
 -- they have room for one step more
@@ -105,31 +111,98 @@ pub record MayStep (c : Counts) (i : Instruction) (mem memV memA : List ℕ) : T
   pub sizes : Sizes (length memA) mem memV memA
   pub fits : FitsMemory (length memA) i
 
--- code whose n instructions all have fields in range
-abbrev pub CodeFits : (code : List ℕ) (n m : ℕ) → Type 0
-CodeFits code n m = (i : ℕ) → i < n → Fits n m (programIn code n m .at i)
-
 -- where a run may go on
 pub record Ready (n m : ℕ) (c : Counts) (p : Parts) (reports outputs : List ℕ) (left : ℕ) : Type 0 where
   pub runnable : Runnable n m (world c p reports outputs)
   pub within : c .steps + left ≤ mostSteps
 
+-- ---- an instruction where it stands, in the code of an image
+-- the instruction that the fields at an index make
+unfoldable pub standing : (code : List ℕ) (index : ℕ) → Instruction
+standing code index = builtFrom (fieldsAt code index)
+
+-- of MOV, and of an operation
+unfoldable pub moveAt : (code : List ℕ) (index : ℕ) → Instruction
+moveAt code index = Move (f .d) (operandOf (f .b) (f .imm))
+  where
+    f : Fields
+    f = fieldsAt code index
+
+unfoldable pub computeAt : Operation → (code : List ℕ) (index : ℕ) → Instruction
+computeAt op code index = Compute op (f .d) (f .a) (operandOf (f .b) (f .imm))
+  where
+    f : Fields
+    f = fieldsAt code index
+
+-- OPEN and CLOSE
+unfoldable pub markAt : Bool → (code : List ℕ) (index : ℕ) → Instruction
+markAt addressable code index = Mark addressable (rangeStart (f .imm)) (rangeLength (f .imm))
+  where
+    f : Fields
+    f = fieldsAt code index
+
+-- r is byte k of the instruction at an index; r is its word imm
+pub record ByteIs (code : List ℕ) (index k r : ℕ) : Type 0 where
+  pub same : r ≡ getD code (instructionSize * index + k) 0
+
+pub record ImmIs (code : List ℕ) (index r : ℕ) : Type 0 where
+  pub same : r ≡ fieldsAt code index .imm
+
+-- an op is one of these
+abbrev pub oneOf : List ℕ → ℕ → Bool
+oneOf [] op = false
+oneOf (k ∷ ks) op = eqb op k || oneOf ks op
+
+-- LD8, LD32, LD16, LDS8, LDS16; ST8, ST32, ST16
+abbrev pub loadOps : List ℕ
+loadOps = 13 ∷ 14 ∷ 21 ∷ 22 ∷ 23 ∷ []
+
+abbrev pub storeOps : List ℕ
+storeOps = 15 ∷ 16 ∷ 24 ∷ []
+
+-- the op of a load or store
+pub record IsAccess (op : ℕ) : Type 0 where
+  pub known : op < ops
+  pub listed : oneOf storeOps op ≡ false → oneOf loadOps op ≡ true
+
+-- the width of a load or store by its op, and as the code numbers it: LD32 and ST32 move a word, LD16, LDS16 and ST16 a half word, the others a byte
+abbrev pub widthNumber : ℕ → ℕ
+widthNumber op = cond (eqb op 14 || eqb op 16) 1 (cond (eqb op 21 || eqb op 23 || eqb op 24) 2 0)
+
+abbrev pub widthOf : ℕ → Width
+widthOf op = cond (eqb (widthNumber op) 0) Byte (cond (eqb (widthNumber op) 1) Word Half)
+
+-- LDS8 and LDS16 copy the top bit
+abbrev pub wideningOf : ℕ → Widening
+wideningOf op = cond (eqb op 22 || eqb op 23) Sign Zero
+
+-- at an index below N there is an instruction with fields in range, in an image of n instructions and m bytes of memory
+pub record Reads (code : List ℕ) (n m index : ℕ) : Type 0 where
+  pub there : index < length code / instructionSize
+  pub known : fieldsAt code index .op < ops
+  pub same : programIn code n m .at index ≡ standing code index
+  pub fits : Fits n m (standing code index)
+
+abbrev pub CodeReads : (code : List ℕ) (n m : ℕ) → Type 0
+CodeReads code n m = (i : ℕ) → i < n → Reads code n m i
+
 -- ---- a turn of the loop
--- the flat form of what stands at an index of a program: past the last instruction, STOP
-pub record Stands (program : Program) (index : ℕ) (i : Flat) : Type 0 where
-  pub below : index < program .count → program .at index ≡ meaning i
-  pub past : program .count ≤ index → i ≡ flat.Stop
+-- all that it asks for, where the index is below n
+pub record MayTurn (code : List ℕ) (n : ℕ) (c : Counts) (mem memV memA : List ℕ) : Type 0 where
+  pub there : c .index < n → c .index < length code / instructionSize
+  pub known : c .index < n → fieldsAt code (c .index) .op < ops
+  pub may : c .index < n → MayStep c (standing code (c .index)) mem memV memA
 
--- a table that has it at every index
-pub record Decodes (program : Program) (table : List Flat) : Type 0 where
-  pub at : (index : ℕ) → Stands program index (getD table index flat.Stop)
+-- the stop reason before an op: STOP, EMIT without a place, or what holds otherwise
+abbrev pub reasonBy : (op places outputs otherwise : ℕ) → ℕ
+reasonBy op places outputs otherwise = cond (eqb op 0) stopped (cond (eqb op 18) (cond (leb places outputs) noPlace otherwise) otherwise)
 
--- the stop reason before it, of a program with n instructions; without one there is budget left
-pub record Reasons (i : Flat) (n places left : ℕ) (c : Counts) (reason : ℕ) : Type 0 where
-  pub told : (program : Program) → program .count ≡ n → Stands program (c .index) i → reason ≡ reasonAt program places left (c .index) (c .outputs)
+-- the stop reason at the index; without one there is budget left
+pub record Reasons (code : List ℕ) (n places left : ℕ) (c : Counts) (reason : ℕ) : Type 0 where
+  pub told : (m : ℕ) → CodeReads code n m → reason ≡ reasonAt (programIn code n m) places left (c .index) (c .outputs)
   pub budget : reason ≡ goesOn → 0 < left
 
--- w′ is left: by a step where there is no reason to stop, else it is w
-pub record Turned (i : Flat) (reason : ℕ) (w w′ : World) : Type 0 where
-  pub steps : reason ≡ goesOn → w′ ≡ stepped (meaning i) w
+-- w′ is left: by the step of an instruction where there is no reason to stop, else it is w
+pub record Turned (i : Instruction) (reason : ℕ) (w w′ : World) : Type 0 where
+  pub steps : reason ≡ goesOn → w′ ≡ stepped i w
   pub stays : (reason ≡ goesOn → ⊥) → w′ ≡ w

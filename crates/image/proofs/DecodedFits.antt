@@ -9,7 +9,7 @@ use borrow.Author.Tests.{ltb-true, leb-true}
 use Rattle.rules.proofs.ByteLaws.{joined-lt}
 use Rattle.image.specs.Words.{nthWord, Bytes}
 use Rattle.image.specs.Format.{headerSize, instructionSize, ports, fieldM, fieldN, codePart}
-use Rattle.image.specs.Rows.{rowOf, literalMark, isRegister, isWritable, operandOk, rangeStart, rangeLength, rangeOk, fieldsOk, operandOf, built, fieldsAt, decodeAt}
+use Rattle.image.specs.Rows.{rowOf, literalMark, isRegister, isWritable, operandOk, rangeStart, rangeLength, rangeOk, fieldsOk, operandOf, built, fieldsAt, builtFrom, decodeAt}
 use Rattle.image.specs.Accepted.{Accepted, OperandFits, Fits}
 use Rattle.image.specs.declared.Instruction.{Instruction}
 use Rattle.image.specs.declared.rows.Row.{Row}
@@ -75,6 +75,16 @@ PlacedAt i (Fault k) = k ≡ i
 -- the place of a fault is the index
 pub fault-place : (code : List ℕ) (i n m k : ℕ) → decodeAt code i n m ≡ Fault k → k ≡ i
 fault-place code i n m k h = subst (PlacedAt i) h (of-answer (PlacedAt i) n m code i (λ there kept. tt) refl)
+
+abbrev BuiltAs : Instruction → Decoded → Type 0
+BuiltAs i (Valid v) = v ≡ i
+BuiltAs i (Fault k) = Unit
+
+-- what is decoded is what the fields make
+pub decoded-built : (code : List ℕ) (i n m : ℕ) (v : Instruction) → decodeAt code i n m ≡ Valid v → v ≡ builtFrom (fieldsAt code i)
+decoded-built code i n m v h =
+    let made = builtFrom (fieldsAt code i) in
+    subst (BuiltAs made) h (of-answer (BuiltAs made) n m code i (λ there kept. refl) tt)
 
 -- each index below N of an accepted image decodes, to an instruction whose fields fit
 pub decodes : (s : List ℕ) → Bytes s → Accepted s → (i : ℕ) → i < fieldN s

@@ -13,7 +13,7 @@ use Rattle.image.specs.declared.Widening.the-variants.{Zero}
 use Rattle.image.specs.declared.Instruction.the-variants.{Stop, Move, Load, Emit}
 use Rattle.image.specs.declared.Decoded.the-variants.{Valid}
 
-pub largest-image : largest ≡ 8608
+pub largest-image : largest ≡ 24992
 largest-image = refl
 
 pub example-header : headerOf example ≡ record { m = 16; n = 4; r = 1; d = 0; refusal = accepted }

@@ -1,5 +1,5 @@
 -- Which small images are accepted, and with which refusal the others are not, worked out by hand from document 01 (When the bench says
--- no) and 02, L1 and L9: each number by itself, two at once, the lowest of several indices, and the edges; and register 15. proofs/AcceptanceCases.antt
+-- no) and 02, L1, L5 and L9: each number by itself, two at once, the lowest of several indices, and the edges; and register 15. proofs/AcceptanceCases.antt
 -- says that the definitions give them.
 use Prim.Native.Nat.{ℕ, _+_}
 use mathlib.Core.List.{List, [], _∷_, _++_, map}
@@ -38,9 +38,9 @@ fault1 s = take 31 s
 abbrev fault2 : List ℕ → List ℕ
 fault2 s = set s 0 0x53
 
--- M 4,104
+-- M 8,200
 abbrev fault3 : List ℕ → List ℕ
-fault3 s = set s 5 0x10
+fault3 s = set s 5 0x20
 
 -- the data's offset is 93
 abbrev fault4 : List ℕ → List ℕ
@@ -73,6 +73,14 @@ withFields op d a b = fieldsFrom 40 op d a b base
 -- instruction 2, imm 0
 abbrev lastFields : (op d a b : ℕ) → List ℕ
 lastFields op d a b = fieldsFrom 48 op d a b base
+
+-- M 8,192, and in the place of instruction 2 OPEN or CLOSE with these four bytes: start and length
+abbrev rangeOf8192 : (op s₀ s₁ l₀ l₁ : ℕ) → List ℕ
+rangeOf8192 op s₀ s₁ l₀ l₁ = set (set (set (set (set (set (set base 4 0) 5 0x20) 48 op) 52 s₀) 53 s₁) 54 l₀) 55 l₁
+
+-- M 8,192, and region 2 is one byte from the place with these two bytes on
+abbrev regionOf8192 : (s₀ s₁ : ℕ) → List ℕ
+regionOf8192 s₀ s₁ = set (set (set (set base 4 0) 5 0x20) 80 s₀) 81 s₁
 
 -- ---- the cases
 pub record RefusalCase : Type 0 where
@@ -176,20 +184,26 @@ refusalCases =
     ∷ refusalCase (set base 1 0) 2 0
     ∷ refusalCase (set base 2 0) 2 0
     ∷ refusalCase (set base 3 0x32) 2 0
-    -- 3: M 0; M 4,096, which is accepted, and 4,097
+    -- 3: M 0; M 4,096, 4,097 and 8,192, which are accepted, and 8,193
     ∷ refusalCase (set base 4 0) 3 0
     ∷ refusalCase (set (set base 5 0x10) 4 0) 0 0
-    ∷ refusalCase (set (set base 5 0x10) 4 1) 3 0
-    -- N 0; N 512, which these offsets do not go with, and 513
+    ∷ refusalCase (set (set base 5 0x10) 4 1) 0 0
+    ∷ refusalCase (set (set base 5 0x20) 4 0) 0 0
+    ∷ refusalCase (set (set base 5 0x20) 4 1) 3 0
+    -- N 0; N 512, 513 and 2,048, which these offsets do not go with, and 2,049
     ∷ refusalCase (set base 8 0) 3 0
     ∷ refusalCase (set (set base 9 2) 8 0) 4 0
-    ∷ refusalCase (set (set base 9 2) 8 1) 3 0
+    ∷ refusalCase (set (set base 9 2) 8 1) 4 0
+    ∷ refusalCase (set (set base 9 8) 8 0) 4 0
+    ∷ refusalCase (set (set base 9 8) 8 1) 3 0
     -- R 32 and 33
     ∷ refusalCase (set base 16 32) 4 0
     ∷ refusalCase (set base 16 33) 3 0
-    -- D 4,096 and 4,097
+    -- D 4,096, 4,097 and 8,192, and 8,193
     ∷ refusalCase (set (set base 25 0x10) 24 0) 4 0
-    ∷ refusalCase (set (set base 25 0x10) 24 1) 3 0
+    ∷ refusalCase (set (set base 25 0x10) 24 1) 4 0
+    ∷ refusalCase (set (set base 25 0x20) 24 0) 4 0
+    ∷ refusalCase (set (set base 25 0x20) 24 1) 3 0
     -- no regions and no data: R 0, D 0, and the data's offset is the image's end
     ∷ refusalCase (take 56 (set (set (set base 16 0) 24 0) 28 56)) 0 0
     -- 4: the code's offset, also in its highest byte; the regions' offset; one byte less, one more
@@ -211,6 +225,14 @@ refusalCases =
     -- OPEN from 6 on of 2 bytes, which is accepted, and of 3: M is 8
     ∷ refusalCase (set (set (set base 48 19) 52 6) 54 2) 0 0
     ∷ refusalCase (set (set (set base 48 19) 52 6) 54 3) 5 2
+    -- with M 8,192: OPEN from 4,096 on of 4,096 bytes, which is accepted, and from 4,097 on; the last byte, which is accepted, and the one past it
+    ∷ refusalCase (rangeOf8192 19 0 0x10 0 0x10) 0 0
+    ∷ refusalCase (rangeOf8192 19 1 0x10 0 0x10) 5 2
+    ∷ refusalCase (rangeOf8192 19 0xFF 0x1F 1 0) 0 0
+    ∷ refusalCase (rangeOf8192 19 0 0x20 1 0) 5 2
+    -- CLOSE of all 8,192 bytes, which is accepted, and of 8,193
+    ∷ refusalCase (rangeOf8192 20 0 0 0 0x20) 0 0
+    ∷ refusalCase (rangeOf8192 20 0 0 1 0x20) 5 2
     -- ops 21 to 24, LD16, LDS8, LDS16 and ST16, with d and a at the ends of what they may be, and any imm; op 25 has no row, nor has 255
     ∷ refusalCase (withFields 21 0 1 0) 0 0
     ∷ refusalCase (withFields 22 14 0 0) 0 0
@@ -245,6 +267,9 @@ refusalCases =
     -- region 2 up to M, which is accepted, and one further
     ∷ refusalCase (set base 80 7) 0 0
     ∷ refusalCase (set base 80 8) 6 2
+    -- with M 8,192: region 2 is the last byte, which is accepted, and the one past it
+    ∷ refusalCase (regionOf8192 0xFF 0x1F) 0 0
+    ∷ refusalCase (regionOf8192 0 0x20) 6 2
     -- region 2 from 4,294,967,295 on: its end does not wrap
     ∷ refusalCase (set (set (set (set base 80 0xFF) 81 0xFF) 82 0xFF) 83 0xFF) 6 2
     -- two and three of these: the lowest index

@@ -20,18 +20,18 @@ instructionSize = 8
 abbrev pub regionSize : ℕ
 regionSize = 12
 
--- the most that M, N, R and D may be
+-- the most that M, N, R and D may be (02, L5)
 abbrev pub mostM : ℕ
-mostM = 4096
+mostM = 8192
 
 abbrev pub mostN : ℕ
-mostN = 512
+mostN = 2048
 
 abbrev pub mostR : ℕ
 mostR = 32
 
 abbrev pub mostD : ℕ
-mostD = 4096
+mostD = 8192
 
 -- how many registers an instruction can name
 abbrev pub registers : ℕ

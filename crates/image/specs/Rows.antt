@@ -121,6 +121,10 @@ fieldsAt code i = record { op = byte 0; d = byte 1; a = byte 2; b = byte 3; imm 
     byte : ℕ → ℕ
     byte k = getD code (instructionSize * i + k) 0
 
+-- the instruction that fields make, whether they keep their row or not
+abbrev pub builtFrom : Fields → Instruction
+builtFrom f = built (rowOf (f .op)) (f .d) (f .a) (f .b) (f .imm)
+
 abbrev pub decodedFrom : Fields → (i n m : ℕ) → Decoded
 decodedFrom f i n m = decoded (rowOf (f .op)) (f .d) (f .a) (f .b) (f .imm) i n m
 

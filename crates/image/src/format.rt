@@ -26,14 +26,14 @@ pub const WORD_D: usize = 6;
 
 pub const WORD_DATA: usize = 7;
 
-// The most that M, N, R and D may be.
-pub const MOST_M: u32 = 4_096;
+// The most that M, N, R and D may be (02, L5).
+pub const MOST_M: u32 = 8_192;
 
-pub const MOST_N: u32 = 512;
+pub const MOST_N: u32 = 2_048;
 
 pub const MOST_R: u32 = 32;
 
-pub const MOST_D: u32 = 4_096;
+pub const MOST_D: u32 = 8_192;
 
 // The kinds of region: the image has its bytes; addressable but undefined.
 pub const FILLED: u32 = 1;

@@ -5,6 +5,7 @@ use rules::Data;
 use rules::Operation;
 
 pub mod format; // format.rt: the fixed numbers of an image, and its parts
+pub mod ops; // ops.rt: the numbers of the ops
 pub mod refusals; // refusals.rt: the numbers of the refusals
 mod reader; // reader.rt: the refusals of reading, and what is handed back
 mod regions; // regions.rt: the regions and their rules

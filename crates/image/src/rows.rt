@@ -10,6 +10,8 @@ use super::Width;
 use super::format;
 use super::format::INSTRUCTION;
 use super::format::PORTS;
+use super::ops;
+use super::ops::LITERAL;
 use super::words;
 ghost use mathlib.Core.Path.{_≡_};
 ghost use Rattle.image.specs.Rows.{rowOf, isWritable, operandOk, rangeOk, fieldsOk, operandOf, built, decoded, decodeAt};
@@ -32,9 +34,6 @@ const REGISTERS: u8 = format::REGISTERS as u8;
 
 const FRAME_REGISTER: u8 = format::FRAME_REGISTER as u8;
 
-// In the place of a register's number: the operand is the literal imm.
-const LITERAL: u8 = 255;
-
 // The halves of imm: a range's start is the low one, its length the high one.
 const HALF: u32 = 0x1_0000;
 
@@ -42,31 +41,31 @@ fn row_of(op: u8) -> Row
     ensures { λ r. ⌜ r ≡ rowOf op ⌝ }
 {
     match op {
-        0 => Row::Stops,
-        1 => Row::Moves,
-        2 => Row::Computes(Operation::Add),
-        3 => Row::Computes(Operation::Sub),
-        4 => Row::Computes(Operation::Mul),
-        5 => Row::Computes(Operation::And),
-        6 => Row::Computes(Operation::Or),
-        7 => Row::Computes(Operation::Xor),
-        8 => Row::Computes(Operation::Shl),
-        9 => Row::Computes(Operation::Shr),
-        10 => Row::Computes(Operation::Sar),
-        11 => Row::Computes(Operation::Eq),
-        12 => Row::Computes(Operation::Ltu),
-        13 => Row::Loads(Width::Byte, Widening::Zero),
-        14 => Row::Loads(Width::Word, Widening::Zero),
-        15 => Row::Stores(Width::Byte),
-        16 => Row::Stores(Width::Word),
-        17 => Row::Jumps,
-        18 => Row::Emits,
-        19 => Row::Marks(true),
-        20 => Row::Marks(false),
-        21 => Row::Loads(Width::Half, Widening::Zero),
-        22 => Row::Loads(Width::Byte, Widening::Sign),
-        23 => Row::Loads(Width::Half, Widening::Sign),
-        24 => Row::Stores(Width::Half),
+        ops::STOP => Row::Stops,
+        ops::MOV => Row::Moves,
+        ops::ADD => Row::Computes(Operation::Add),
+        ops::SUB => Row::Computes(Operation::Sub),
+        ops::MUL => Row::Computes(Operation::Mul),
+        ops::AND => Row::Computes(Operation::And),
+        ops::OR => Row::Computes(Operation::Or),
+        ops::XOR => Row::Computes(Operation::Xor),
+        ops::SHL => Row::Computes(Operation::Shl),
+        ops::SHR => Row::Computes(Operation::Shr),
+        ops::SAR => Row::Computes(Operation::Sar),
+        ops::EQ => Row::Computes(Operation::Eq),
+        ops::LTU => Row::Computes(Operation::Ltu),
+        ops::LD8 => Row::Loads(Width::Byte, Widening::Zero),
+        ops::LD32 => Row::Loads(Width::Word, Widening::Zero),
+        ops::ST8 => Row::Stores(Width::Byte),
+        ops::ST32 => Row::Stores(Width::Word),
+        ops::JNZ => Row::Jumps,
+        ops::EMIT => Row::Emits,
+        ops::OPEN => Row::Marks(true),
+        ops::CLOSE => Row::Marks(false),
+        ops::LD16 => Row::Loads(Width::Half, Widening::Zero),
+        ops::LDS8 => Row::Loads(Width::Byte, Widening::Sign),
+        ops::LDS16 => Row::Loads(Width::Half, Widening::Sign),
+        ops::ST16 => Row::Stores(Width::Half),
         _ => Row::Missing,
     }
 }

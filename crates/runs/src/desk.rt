@@ -85,6 +85,14 @@ fn run(d: Desk, image: &[u8], x: [u32; 5]) -> Desk {
     )
 }
 
+// l budget: a beginning and a run, on buffers large enough for any program, which are not kept.
+fn ran_large(d: Desk, image: &[u8], x: [u32; 5]) -> Desk {
+    with_now(
+        d,
+        series::large(format::part(image, 0, d.size), d.sizes, x[0]),
+    )
+}
+
 // k: what there is now is kept, to be compared with.
 fn kept(d: Desk) -> Desk {
     let mut next = d;
@@ -161,6 +169,7 @@ pub fn obey(d: Desk, image: &mut [u8; ROOM], room: &[u8; LINE], size: usize) -> 
         b'b' => begun(d, image),
         b'k' => kept(d),
         b'r' => run(d, image, x),
+        b'l' => ran_large(d, image, x),
         b'u' => with_now(d, d.kept),
         b'c' => counted(d, x),
         b'm' => marked(d, x),

@@ -10,7 +10,7 @@ mod series; // series.rt: a beginning and the runs after it
 mod show; // show.rt: lines of text with numbers in them
 mod words; // words.rt: the words of a series, and what differs
 
-const SCRIPT: usize = 50_000;
+const SCRIPT: usize = 60_000;
 
 fn put(line: &mut [u8; LINE], at: usize, b: u8) {
     if at < LINE {

@@ -2,7 +2,7 @@
 // Room for a line, and for an image.
 pub const LINE: usize = 120;
 
-pub const ROOM: usize = 4_200;
+pub const ROOM: usize = 25_000;
 
 fn digit(b: u8) -> u8 {
     if b'0' <= b && b <= b'9' {

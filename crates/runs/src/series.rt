@@ -3,6 +3,7 @@ ghost use Prim.Native.Nat.{_≤_};
 use checker::Counts;
 use checker::State;
 use image::Refusal;
+use image::refusals::ACCEPTED;
 use rules::Data;
 use rules::Shadow;
 
@@ -12,6 +13,9 @@ pub const BYTES: usize = 65;
 pub const REPORTS: usize = 260;
 
 pub const OUTPUTS: usize = 514;
+
+// The bytes of each buffer for the most memory that a program can have, and one more.
+const LARGE: usize = image::format::MOST_M as usize + 1;
 
 // What the last call answered, and what it left.
 pub struct Series {
@@ -41,6 +45,9 @@ const LEFT_OVER: [u8; BYTES] =
 const OLD_V: u8 = 0x33;
 
 const OLD_A: u8 = 0x44;
+
+// What each byte of a large memory holds at first.
+const OLD_DATA: u8 = 0x55;
 
 // Register r holds r; but register 15 holds 0, so that with it an imm is an address.
 const REGISTERS: [Data; 16] = [
@@ -138,11 +145,17 @@ pub fn begin(image: &[u8], sizes: Sizes) -> Series {
     s
 }
 
-// A run on the fronts of the buffers and lists.
-pub fn run(image: &[u8], s: Series, sizes: Sizes, budget: u32) -> Series {
-    let mut mem = s.mem;
-    let mut vbits = s.vbits;
-    let mut abits = s.abits;
+// A run on these buffers and the fronts of the lists.
+fn run_on(
+    image: &[u8],
+    s: Series,
+    mem: &mut [u8],
+    vbits: &mut [u8],
+    abits: &mut [u8],
+    sizes: Sizes,
+    budget: u32,
+) -> Series {
+    let mut next = s;
     let mut reports = s.reports;
     let mut outputs = s.outputs;
     let report_list: &mut [u32] = &mut reports;
@@ -150,25 +163,72 @@ pub fn run(image: &[u8], s: Series, sizes: Sizes, budget: u32) -> Series {
     let ran = checker::run(
         image,
         s.state,
-        front(&mut mem, sizes.mem),
-        front(&mut vbits, sizes.vbits),
-        front(&mut abits, sizes.abits),
+        mem,
+        vbits,
+        abits,
         front_words(report_list, sizes.reports),
         front_words(output_list, sizes.outputs),
         budget,
     );
     let refusal = ran.refusal;
     let state = ran.state;
-    Series {
-        refusal: refusal,
-        reason: ran.reason,
-        state: state,
-        mem: mem,
-        vbits: vbits,
-        abits: abits,
-        reports: reports,
-        outputs: outputs,
+    next.refusal = refusal;
+    next.reason = ran.reason;
+    next.state = state;
+    next.reports = reports;
+    next.outputs = outputs;
+    next
+}
+
+// A run on the fronts of the buffers and lists.
+pub fn run(image: &[u8], s: Series, sizes: Sizes, budget: u32) -> Series {
+    let mut mem = s.mem;
+    let mut vbits = s.vbits;
+    let mut abits = s.abits;
+    let mut next = run_on(
+        image,
+        s,
+        front(&mut mem, sizes.mem),
+        front(&mut vbits, sizes.vbits),
+        front(&mut abits, sizes.abits),
+        sizes,
+        budget,
+    );
+    next.mem = mem;
+    next.vbits = vbits;
+    next.abits = abits;
+    next
+}
+
+// A beginning and, if it is accepted, a run on the fronts of large buffers; they are not kept.
+pub fn large(image: &[u8], sizes: Sizes, budget: u32) -> Series {
+    let mut s = fresh();
+    let mut mem = [OLD_DATA; LARGE];
+    let mut vbits = [OLD_V; LARGE];
+    let mut abits = [OLD_A; LARGE];
+    let began = checker::begin(
+        image,
+        REGISTERS,
+        front(&mut mem, sizes.mem),
+        front(&mut vbits, sizes.vbits),
+        front(&mut abits, sizes.abits),
+    );
+    let refusal = began.refusal;
+    s.refusal = refusal;
+    if refusal.number != ACCEPTED {
+        return s;
     }
+    let state = began.state;
+    s.state = state;
+    run_on(
+        image,
+        s,
+        front(&mut mem, sizes.mem),
+        front(&mut vbits, sizes.vbits),
+        front(&mut abits, sizes.abits),
+        sizes,
+        budget,
+    )
 }
 
 // So many runs, each with that budget.

@@ -75,7 +75,7 @@ fn put_region(image: &mut [u8], at: u16, start: u32, size: u32, kind: u32) {
 // A byte of the example and its new value, and another; or the same one twice.
 struct Change(u8, u8, u8, u8);
 
-const CHANGED: usize = 35;
+const CHANGED: usize = 41;
 
 const CHANGES: [Change; CHANGED] = [
     Change(0, 0x55, 0, 0x55), // the magic's first byte
@@ -83,14 +83,20 @@ const CHANGES: [Change; CHANGED] = [
     Change(4, 0, 4, 0), // M 0
     Change(4, 0, 5, 16), // M 4096
     Change(4, 1, 5, 16), // M 4097
+    Change(4, 0, 5, 32), // M 8192
+    Change(4, 1, 5, 32), // M 8193
     Change(4, 16, 7, 1), // M with a high byte
     Change(8, 0, 8, 0), // N 0
     Change(8, 0, 9, 2), // N 512, of which 4 are there
     Change(8, 1, 9, 2), // N 513
+    Change(8, 0, 9, 8), // N 2048
+    Change(8, 1, 9, 8), // N 2049
     Change(16, 32, 16, 32), // R 32, of which one is there
     Change(16, 33, 16, 33), // R 33
     Change(24, 0, 25, 16), // D 4096, of which none are there
     Change(24, 1, 25, 16), // D 4097
+    Change(24, 0, 25, 32), // D 8192
+    Change(24, 1, 25, 32), // D 8193
     Change(24, 0, 27, 128), // D with a high byte
     Change(12, 33, 12, 33), // code at 33
     Change(20, 65, 20, 65), // regions at 65
@@ -237,11 +243,11 @@ pub fn pairs() {
     }
 }
 
-// An image of one instruction and nothing else, with 16 bytes of memory.
-fn one(name: &[u8], op: u8, imm: u32) {
+// An image of one instruction and nothing else.
+fn one(name: &[u8], m: u32, op: u8, imm: u32) {
     let mut image = [0u8; 40];
     put_magic(&mut image);
-    put_counts(&mut image, 16, 1, 0, 0);
+    put_counts(&mut image, m, 1, 0, 0);
     put_offsets(&mut image, 32, 40, 40);
     put(&mut image, 32, op);
     put_word(&mut image, 36, imm);
@@ -249,30 +255,37 @@ fn one(name: &[u8], op: u8, imm: u32) {
 }
 
 pub fn ranges() {
-    one(b"OPEN 8 to 16, which is M", 19, 0x0008_0008);
-    one(b"OPEN 8 to 17", 19, 0x0009_0008);
-    one(b"CLOSE 0 to 16", 20, 0x0010_0000);
-    one(b"CLOSE 1 to 17", 20, 0x0010_0001);
-    one(b"JNZ 0 of 1", 17, 0);
-    one(b"JNZ 1 of 1", 17, 1);
+    one(b"OPEN 8 to 16, which is M", 16, 19, 0x0008_0008);
+    one(b"OPEN 8 to 17", 16, 19, 0x0009_0008);
+    one(b"CLOSE 0 to 16", 16, 20, 0x0010_0000);
+    one(b"CLOSE 1 to 17", 16, 20, 0x0010_0001);
+    one(b"JNZ 0 of 1", 16, 17, 0);
+    one(b"JNZ 1 of 1", 16, 17, 1);
+    one(b"OPEN 4096 to 8192, which is M", 8_192, 19, 0x1000_1000);
+    one(b"OPEN 4096 to 8193", 8_192, 19, 0x1001_1000);
+    one(b"CLOSE 0 to 8192", 8_192, 20, 0x2000_0000);
+    one(b"CLOSE 1 to 8193", 8_192, 20, 0x2000_0001);
 }
 
-// 32 filled regions of 128 bytes each, from byte 4,128 on.
-fn put_regions(image: &mut [u8]) {
+// 32 filled regions of that size, one behind the other, the first one's words from that place on.
+fn put_regions(image: &mut [u8], at: u16, size: u32) {
+    let mut start = 0u32;
     let mut i = 0u8;
     while i < 32 {
-        put_region(image, 4_128 + 12 * (i as u16), 128 * (i as u32), 128, 1);
+        let place = std::num::wrapping_add_u16(at, 12 * (i as u16));
+        put_region(image, place, start, size, 1);
+        start = std::num::wrapping_add_u32(start, size);
         i += 1;
     }
 }
 
 // STOP 512 times, 32 regions, and 4,096 bytes of data.
-pub fn largest() {
+pub fn long() {
     let mut image = [0u8; 8_609];
     put_magic(&mut image);
     put_counts(&mut image, 4_096, 512, 32, 4_096);
     put_offsets(&mut image, 32, 4_128, 4_512);
-    put_regions(&mut image);
+    put_regions(&mut image, 4_128, 128);
     read_front(b"8608 bytes", &image, 8_608);
     read_front(b"8609 bytes", &image, 8_609);
     read_front(b"8607 bytes", &image, 8_607);
@@ -285,9 +298,28 @@ pub fn largest() {
     read_front(b"8608 bytes, region 31 not filled", &image, 8_608);
 }
 
-// Instructions alone, as many as there may be and one more.
+// As many of each as there may be: STOP 2,048 times, 32 regions, and 8,192 bytes of data.
+pub fn largest() {
+    let mut image = [0u8; 24_993];
+    put_magic(&mut image);
+    put_counts(&mut image, 8_192, 2_048, 32, 8_192);
+    put_offsets(&mut image, 32, 16_416, 16_800);
+    put_regions(&mut image, 16_416, 256);
+    read_front(b"24992 bytes", &image, 24_992);
+    read_front(b"24993 bytes", &image, 24_993);
+    read_front(b"24991 bytes", &image, 24_991);
+    put(&mut image, 16_408, 25);
+    read_front(b"24992 bytes, instruction 2047 at fault", &image, 24_992);
+    put(&mut image, 16_408, 0);
+    put(&mut image, 16_796, 3);
+    read_front(b"24992 bytes, region 31 at fault", &image, 24_992);
+    put(&mut image, 16_796, 2);
+    read_front(b"24992 bytes, region 31 not filled", &image, 24_992);
+}
+
+// Instructions alone: 512 and one more, as many as there may be and one more.
 pub fn longest_code() {
-    let mut image = [0u8; 4_136];
+    let mut image = [0u8; 16_424];
     put_magic(&mut image);
     put_counts(&mut image, 1, 512, 0, 0);
     put_offsets(&mut image, 32, 4_128, 4_128);
@@ -295,4 +327,10 @@ pub fn longest_code() {
     put_counts(&mut image, 1, 513, 0, 0);
     put_offsets(&mut image, 32, 4_136, 4_136);
     read_front(b"N 513 and nothing else", &image, 4_136);
+    put_counts(&mut image, 1, 2_048, 0, 0);
+    put_offsets(&mut image, 32, 16_416, 16_416);
+    read_front(b"N 2048 and nothing else", &image, 16_416);
+    put_counts(&mut image, 1, 2_049, 0, 0);
+    put_offsets(&mut image, 32, 16_424, 16_424);
+    read_front(b"N 2049 and nothing else", &image, 16_424);
 }

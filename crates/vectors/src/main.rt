@@ -16,6 +16,7 @@ fn main() {
     images::changes();
     images::pairs();
     images::ranges();
+    images::long();
     images::largest();
     images::longest_code();
 }

@@ -1,4 +1,4 @@
--- What the writer answers for small inputs, worked out by hand from documents 01 and 02, L2: images that are written, each refusal by itself, two
+-- What the writer answers for small inputs, worked out by hand from documents 01 and 02, L2 and L5: images that are written, each refusal by itself, two
 -- at once, the lowest of several indices, and the edges. proofs/Cases.antt says that the definitions give them.
 use Prim.Native.Nat.{ℕ}
 use mathlib.Core.List.{List, [], _∷_, _++_}
@@ -76,7 +76,7 @@ stop = 0 ∷ 0 ∷ []
 
 -- ---- the cases
 -- written: with room to the byte, and with bytes past the image; a region that ends at M; op is the low byte of the first word (MOV 2, 5), a word has its low byte first (MOV 14, 0x12345678);
--- register 15 may be stored (ST32 15, ST16 15 at register 1); JNZ to the last instruction; CLOSE 0 to 4,096
+-- register 15 may be stored (ST32 15, ST16 15 at register 1); JNZ to the last instruction; CLOSE 0 to 4,096, and with M 4,097 and 8,192 to 4,097 and 8,192
 abbrev pub writtenCases : List WriteCase
 writtenCases =
     writes 16 exampleCode exampleRegions [] example 76 0
@@ -91,6 +91,8 @@ writtenCases =
     ∷ writes 4096 (0x00010F18 ∷ 6 ∷ []) [] [] (single (24 ∷ 15 ∷ 1 ∷ 0 ∷ 6 ∷ 0 ∷ 0 ∷ 0 ∷ [])) 40 0
     ∷ writes 4096 (0x00010011 ∷ 0 ∷ []) [] [] (single (17 ∷ 0 ∷ 1 ∷ 0 ∷ 0 ∷ 0 ∷ 0 ∷ 0 ∷ [])) 40 0
     ∷ writes 4096 (20 ∷ 0x10000000 ∷ []) [] [] (single (20 ∷ 0 ∷ 0 ∷ 0 ∷ 0 ∷ 0 ∷ 0 ∷ 0x10 ∷ [])) 40 0
+    ∷ writes 4097 (20 ∷ 0x10010000 ∷ []) [] [] (set (single (20 ∷ 0 ∷ 0 ∷ 0 ∷ 0 ∷ 0 ∷ 1 ∷ 0x10 ∷ [])) 4 1) 40 0
+    ∷ writes 8192 (20 ∷ 0x20000000 ∷ []) [] [] (set (single (20 ∷ 0 ∷ 0 ∷ 0 ∷ 0 ∷ 0 ∷ 0 ∷ 0x20 ∷ [])) 5 0x20) 40 0
     ∷ []
 
 -- 12: one byte short, and nothing at all
@@ -103,16 +105,20 @@ roomCases =
     ∷ refuses 1 stop [] [] 0 12 0
     ∷ []
 
--- 3: M, N, R and D out of limits
+-- 3: M, N, R and D out of limits; N 513 and 2,048 are within, and the first instruction has op 25; and so are D 4,097 and 8,192, which no region takes
 abbrev pub limitCases : List WriteCase
 limitCases =
     refuses 0 stop [] [] 40 3 0
-    ∷ refuses 4097 stop [] [] 40 3 0
+    ∷ refuses 8193 stop [] [] 40 3 0
     ∷ refuses 0xFFFFFFFF stop [] [] 40 3 0
     ∷ refuses 1 [] [] [] 40 3 0
-    ∷ refuses 1 (replicate 1026 0) [] [] 40 3 0
+    ∷ refuses 1 (replicate 4098 0) [] [] 40 3 0
+    ∷ refuses 1 (25 ∷ replicate 1025 0) [] [] 40 5 0
+    ∷ refuses 1 (25 ∷ replicate 4095 0) [] [] 40 5 0
     ∷ refuses 4096 stop (replicate 99 1) [] 40 3 0
-    ∷ refuses 4096 stop [] (replicate 4097 0) 40 3 0
+    ∷ refuses 8192 stop [] (replicate 8193 0) 40 3 0
+    ∷ refuses 4096 stop [] (replicate 4097 0) 40 7 0
+    ∷ refuses 8192 stop [] (replicate 8192 0) 40 7 0
     ∷ []
 
 -- 3: a list ends in a part of an entry
@@ -127,7 +133,7 @@ partCases =
     ∷ refuses 16 (0 ∷ 0 ∷ 0 ∷ []) (8 ∷ 4 ∷ []) [] 99 3 0
     ∷ []
 
--- 5: an op that there is not, two of which the lower counts, STOP with d, register 15 as d (MOV, LDS16), JNZ past the last, OPEN past M, MOV with a
+-- 5: an op that there is not, two of which the lower counts, STOP with d, register 15 as d (MOV, LDS16), JNZ past the last, OPEN past M (4,096 and 8,192), MOV with a
 abbrev pub instructionCases : List WriteCase
 instructionCases =
     refuses 8 badCode regions bytes 95 5 1
@@ -137,6 +143,7 @@ instructionCases =
     ∷ refuses 8 (set code 2 0x00010F17) regions bytes 95 5 1
     ∷ refuses 8 (set (set code 2 0x00010011) 3 3) regions bytes 95 5 1
     ∷ refuses 4096 (19 ∷ 0x10000001 ∷ []) [] [] 40 5 0
+    ∷ refuses 8192 (19 ∷ 0x20000001 ∷ []) [] [] 40 5 0
     ∷ refuses 8 (set code 0 0xFF010101) regions bytes 95 5 0
     ∷ []
 

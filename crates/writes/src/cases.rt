@@ -40,33 +40,33 @@ pub fn rooms() {
     written(b"no room", 16, &CODE, &REGIONS, b"", &mut none);
 }
 
-// 32 filled regions of 128 bytes each.
+// 32 filled regions of 256 bytes each.
 fn all_filled() -> [u32; 96] {
     let mut regions = [1u32; 96];
     let mut i = 0;
     while i < 32 {
-        regions[3 * i] = 128 * (i as u32);
-        regions[3 * i + 1] = 128;
+        regions[3 * i] = 256 * (i as u32);
+        regions[3 * i + 1] = 256;
         i += 1;
     }
     regions
 }
 
-// STOP 512 times, 32 regions, 4,096 bytes of data.
+// STOP 2,048 times, 32 regions, 8,192 bytes of data.
 pub fn largest() {
-    let code = [0u32; 1_024];
+    let code = [0u32; 4_096];
     let regions = all_filled();
-    let data = [0x5au8; 4_096];
-    let mut out = [0xeeu8; 8_612];
-    written(b"the largest", 4_096, &code, &regions, &data, &mut out);
+    let data = [0x5au8; 8_192];
+    let mut out = [0xeeu8; 24_996];
+    written(b"the largest", 8_192, &code, &regions, &data, &mut out);
     bytes(&out, 0, 32);
-    bytes(&out, 4_120, 32);
-    bytes(&out, 4_488, 32);
-    bytes(&out, 8_600, 12);
-    let mut short = [0xeeu8; 8_607];
+    bytes(&out, 16_408, 32);
+    bytes(&out, 16_776, 32);
+    bytes(&out, 24_984, 12);
+    let mut short = [0xeeu8; 24_991];
     written(
-        b"  room for 8607",
-        4_096,
+        b"  room for 24991",
+        8_192,
         &code,
         &regions,
         &data,
@@ -74,24 +74,24 @@ pub fn largest() {
     );
 }
 
-// The largest, with its last region or its data at fault.
+// One instruction, and the largest's regions and data, with the last region or the data at fault.
 pub fn faults() {
-    let code = [0u32; 1_024];
+    let code = [0u32; 2];
     let mut regions = all_filled();
-    let data = [0x5au8; 4_096];
-    let mut out = [0xeeu8; 8_612];
+    let data = [0x5au8; 8_192];
+    let mut out = [0xeeu8; 8_620];
     written(
         b"a byte less",
-        4_096,
+        8_192,
         &code,
         &regions,
-        &data[..4_095],
+        &data[..8_191],
         &mut out,
     );
     regions[95] = 2;
     written(
         b"region 31 not filled",
-        4_096,
+        8_192,
         &code,
         &regions,
         &data,
@@ -100,7 +100,7 @@ pub fn faults() {
     regions[95] = 3;
     written(
         b"region 31 of kind 3",
-        4_096,
+        8_192,
         &code,
         &regions,
         &data,
@@ -108,47 +108,65 @@ pub fn faults() {
     );
 }
 
-// And with more at fault.
+// The largest, with its last region and more at fault.
 pub fn more_faults() {
-    let mut code = [0u32; 1_024];
+    let mut code = [0u32; 4_096];
     let mut regions = all_filled();
     regions[95] = 3;
-    code[1_022] = 0x0000_0f01;
-    let data = [0x5au8; 4_096];
-    let mut out = [0xeeu8; 8_612];
+    code[4_094] = 0x0000_0f01;
+    let data = [0x5au8; 8_192];
+    let mut out = [0xeeu8; 24_996];
     written(
-        b"and instruction 511 writes register 15",
-        4_096,
+        b"and instruction 2047 writes register 15",
+        8_192,
         &code,
         &regions,
         &data,
         &mut out,
     );
-    written(b"and M 4097", 4_097, &code, &regions, &data, &mut out);
+    written(b"and M 8193", 8_193, &code, &regions, &data, &mut out);
 }
 
 // Instructions alone, as many as there may be and one more, and none; M 0, 33 regions.
 pub fn limits() {
-    let code = [0u32; 1_026];
+    let code = [0u32; 4_098];
     let regions = [1u32; 99];
-    let mut full = [0xeeu8; 4_132];
-    written(b"N 512", 1, &code[..1_024], &regions[..0], b"", &mut full);
-    bytes(&full, 4_120, 12);
-    let mut out = [0xeeu8; 8_612];
-    written(b"N 513", 1, &code, &regions[..0], b"", &mut out);
+    let mut full = [0xeeu8; 16_420];
+    written(b"N 2048", 1, &code[..4_096], &regions[..0], b"", &mut full);
+    bytes(&full, 16_408, 12);
+    let mut more = [0xeeu8; 16_424];
+    written(b"N 2049", 1, &code, &regions[..0], b"", &mut more);
+    let mut out = [0xeeu8; 440];
     written(b"N 0", 1, &code[..0], &regions[..0], b"", &mut out);
     written(b"M 0", 0, &code[..2], &regions[..0], b"", &mut out);
-    written(b"R 33", 4_096, &code[..2], &regions, b"", &mut out);
+    written(b"R 33", 8_192, &code[..2], &regions, b"", &mut out);
 }
 
 // One byte of data more than there may be.
 pub fn most_data() {
     let code = [0u32; 2];
     let regions = all_filled();
-    let data = [0u8; 4_097];
-    let mut out = [0xeeu8; 8_612];
-    written(b"D 4097", 4_096, &code, &regions, &data, &mut out);
-    written(b"D 4096", 4_096, &code, &regions, &data[..4_096], &mut out);
+    let data = [0u8; 8_193];
+    let mut out = [0xeeu8; 8_620];
+    written(b"D 8193", 8_192, &code, &regions, &data, &mut out);
+    written(b"D 8192", 8_192, &code, &regions, &data[..8_192], &mut out);
+}
+
+// 512 instructions alone and one more; 4,097 bytes of data, which fill a memory of as many.
+pub fn within() {
+    let code = [0u32; 1_026];
+    let region = [0u32, 4_097, 1];
+    let data = [0x5au8; 4_097];
+    let mut coded = [0xeeu8; 4_140];
+    written(b"N 512", 1, &code[..1_024], &region[..0], b"", &mut coded);
+    bytes(&coded, 4_120, 12);
+    let mut longer = [0xeeu8; 4_140];
+    written(b"N 513", 4_096, &code, &region[..0], b"", &mut longer);
+    bytes(&longer, 4_128, 12);
+    let mut filled = [0xeeu8; 4_152];
+    written(b"D 4097", 4_097, &code[..2], &region, &data, &mut filled);
+    bytes(&filled, 0, 56);
+    bytes(&filled, 4_144, 8);
 }
 
 // A part of an entry.

@@ -11,5 +11,6 @@ fn main() {
     cases::more_faults();
     cases::limits();
     cases::most_data();
+    cases::within();
     cases::parts();
 }

@@ -1,6 +1,6 @@
 //! Stored images, whose runs are known.
 
-use uviktalik::numbers::{FRAME_REGISTER, MAX_STEPS, REGISTERS};
+use uviktalik::numbers::{FRAME_REGISTER, MAX_INSTRUCTIONS, MAX_MEMORY, MAX_STEPS, REGISTERS};
 use uviktalik::{Buffers, Cause, Output, Refusal, Report, ReportKind, StopReason};
 
 use crate::desk::{image, registers, Desk};
@@ -25,6 +25,32 @@ fn the_mended_program_runs_clean() {
     assert_eq!(desk.state.reports(), 0);
     assert_eq!(desk.state.reports_in(&desk.reports).count(), 0);
     assert_eq!(desk.state.outputs_in(&desk.outputs).count(), 1);
+}
+
+#[test]
+fn the_longest_image_runs_past_its_last_instruction() {
+    let mut desk = Desk::of("tests/longest");
+    assert_eq!(desk.check(MAX_STEPS), Ok(StopReason::PAST_END));
+    assert_eq!((desk.state.index() as usize, desk.state.steps()), (MAX_INSTRUCTIONS, 18));
+    let reports = desk.state.reports_in(&desk.reports).map(|report| report.to_string());
+    let outputs = desk.state.outputs_in(&desk.outputs).map(|output| output.to_string());
+    let lines: Vec<String> = reports.chain(outputs).collect();
+    let expected = std::fs::read_to_string("../../tests/longest.out").expect("its lines");
+    assert_eq!(lines, expected.lines().take(2 + 6).collect::<Vec<_>>());
+    assert_eq!(desk.mem[5_000..5_004], [0, 0x20, 0, 0]);
+    let undefined: Vec<usize> = (0..MAX_MEMORY).filter(|&byte| desk.vbits[byte] != 0).collect();
+    assert_eq!((undefined, desk.vbits[8_191]), (vec![8_191], 255));
+    assert!(desk.abits.iter().all(|&addressable| addressable == 1));
+}
+
+#[test]
+fn the_longest_image_of_document_01_gives_what_it_gave() {
+    let mut desk = Desk::of("tests/longest_before");
+    assert_eq!((desk.image.len(), desk.mem.len()), (8_608, 4_096));
+    assert_eq!(desk.check(MAX_STEPS), Ok(StopReason::STOPPED));
+    assert_eq!((desk.state.steps(), desk.state.reports()), (2, 0));
+    let outputs: Vec<Output> = desk.state.outputs_in(&desk.outputs).collect();
+    assert_eq!(outputs, [Output { port: 0, value: 0xFFFE_FDFC }]);
 }
 
 #[test]
@@ -106,6 +132,7 @@ fn a_refusal_has_its_index_and_its_words() {
         ("tests/frame", Cause::BAD_INSTRUCTION),
         ("tests/region", Cause::BAD_REGION),
         ("tests/one_byte_more", Cause::WRONG_LAYOUT),
+        ("tests/one_byte_less", Cause::WRONG_LAYOUT),
     ] {
         let mut desk = Desk::of(name);
         let refusal = uviktalik::read(&desk.image).expect_err(name);

@@ -138,7 +138,13 @@ impl Desk {
 
 #[test]
 fn accepted_calls_write_inside_what_they_are_lent() {
-    for name in ["examples/incident", "examples/copy", "tests/longest", "tests/many"] {
+    for name in [
+        "examples/incident",
+        "examples/copy",
+        "tests/longest",
+        "tests/longest_before",
+        "tests/many",
+    ] {
         let bytes = image(name);
         let m = uviktalik::read(&bytes).expect(name).m as usize;
         let mut desk = Desk::new(&bytes, m);
@@ -162,7 +168,13 @@ fn accepted_calls_write_inside_what_they_are_lent() {
 
 #[test]
 fn refused_calls_leave_what_they_should() {
-    for name in ["tests/empty", "tests/instruction", "tests/region", "tests/one_byte_more"] {
+    for name in [
+        "tests/empty",
+        "tests/instruction",
+        "tests/region",
+        "tests/one_byte_more",
+        "tests/one_byte_less",
+    ] {
         let mut desk = Desk::new(&image(name), 16);
         let index = uviktalik::read(&image(name)).expect_err(name).index;
         assert_ne!(desk.run(7), ACCEPTED, "{name}");

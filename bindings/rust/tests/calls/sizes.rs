@@ -95,3 +95,30 @@ fn the_longest_image_has_every_size_at_its_limit() {
     let sizes = [header.m, header.n, header.r, header.d].map(|size| size as usize);
     assert_eq!(sizes, [MAX_MEMORY, MAX_INSTRUCTIONS, MAX_REGIONS, MAX_DATA]);
 }
+
+#[test]
+fn a_size_one_above_its_limit_is_refused() {
+    let longest = image("tests/longest");
+    for (at, most) in [(4, MAX_MEMORY), (8, MAX_INSTRUCTIONS), (16, MAX_REGIONS), (24, MAX_DATA)] {
+        let mut image = longest.clone();
+        assert_eq!(image[at..at + 4], (most as u32).to_le_bytes());
+        image[at..at + 4].copy_from_slice(&(most as u32 + 1).to_le_bytes());
+        let refusal = uviktalik::read(&image).expect_err("a size above its limit");
+        assert_eq!(refusal.cause, Cause::OUT_OF_LIMITS, "the word at {at}");
+    }
+}
+
+#[test]
+fn the_most_memory_has_buffers_of_as_many_bytes() {
+    for take in [
+        |desk: &mut Desk| desk.mem.truncate(MAX_MEMORY - 1),
+        |desk: &mut Desk| desk.vbits.truncate(MAX_MEMORY - 1),
+        |desk: &mut Desk| desk.abits.push(0),
+    ] {
+        let mut desk = Desk::of("tests/longest");
+        assert_eq!(desk.check(MAX_STEPS), Ok(StopReason::PAST_END));
+        take(&mut desk);
+        assert_eq!(cause_of_run(&mut desk, 1), Some(Cause::WRONG_SIZE));
+        assert_eq!(desk.begin().map_err(|refusal| refusal.cause), Err(Cause::WRONG_SIZE));
+    }
+}

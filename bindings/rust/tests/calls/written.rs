@@ -1,6 +1,6 @@
 //! Images that are written: from their fields, and from the fields of stored ones.
 
-use uviktalik::numbers::{INSTRUCTION_WORDS, MAX_IMAGE, REGION_WORDS};
+use uviktalik::numbers::{INSTRUCTION_WORDS, MAX_IMAGE, MAX_MEMORY, REGION_WORDS};
 use uviktalik::{Cause, Fields, Header, Refusal};
 
 use crate::desk::image;
@@ -67,20 +67,67 @@ fn lists_have_whole_entries() {
     assert_eq!(written(&Fields { regions: &[], ..EXAMPLE }, 80).0, Ok(64));
 }
 
-#[test]
-fn stored_images_are_read_and_written_again() {
-    for name in ["examples/incident", "examples/sensor", "tests/frame_read", "tests/longest"] {
-        let image = image(name);
-        let Header { m, n, r, d, code } = uviktalik::read(&image).expect(name);
+/// The fields of an image, as lists of their own.
+struct Taken {
+    m: u32,
+    instructions: Vec<u32>,
+    regions: Vec<u32>,
+    data: Vec<u8>,
+}
+
+impl Taken {
+    fn of(image: &[u8]) -> Taken {
+        let Header { m, n, r, d, code } = uviktalik::read(image).expect("an accepted image");
         let rest = &image[code.as_ptr_range().end as usize - image.as_ptr() as usize..];
         let (regions, data) = rest.split_at(4 * REGION_WORDS * r as usize);
-        let (instructions, regions) = (words(code), words(regions));
+        let (instructions, regions, data) = (words(code), words(regions), data.to_vec());
         assert_eq!(instructions.len(), INSTRUCTION_WORDS * n as usize);
         assert_eq!(data.len(), d as usize);
-        let fields = Fields { m, instructions: &instructions, regions: &regions, data };
-        let (answer, out) = written(&fields, MAX_IMAGE);
+        Taken { m, instructions, regions, data }
+    }
+
+    fn written(&self, room: usize) -> (Result<usize, Refusal>, Vec<u8>) {
+        let Taken { m, instructions, regions, data } = self;
+        written(&Fields { m: *m, instructions, regions, data }, room)
+    }
+}
+
+#[test]
+fn stored_images_are_read_and_written_again() {
+    for name in [
+        "examples/incident",
+        "examples/sensor",
+        "tests/frame_read",
+        "tests/longest",
+        "tests/longest_before",
+    ] {
+        let image = image(name);
+        let (answer, out) = Taken::of(&image).written(MAX_IMAGE);
         assert_eq!(answer, Ok(image.len()), "{name}");
         assert_eq!(out[..image.len()], image, "{name}");
         assert!(out[image.len()..].iter().all(|&byte| byte == 0xEE), "{name}");
+    }
+}
+
+#[test]
+fn the_longest_image_takes_all_the_room() {
+    let longest = Taken::of(&image("tests/longest"));
+    let (answer, out) = longest.written(MAX_IMAGE - 1);
+    assert_eq!(answer, refused(Cause::NO_ROOM, 0));
+    assert!(out.iter().all(|&byte| byte == 0xEE));
+    assert_eq!(longest.written(MAX_IMAGE).0, Ok(MAX_IMAGE));
+}
+
+#[test]
+fn a_field_one_above_its_limit_is_refused() {
+    for grow in [
+        |fields: &mut Taken| fields.m = MAX_MEMORY as u32 + 1,
+        |fields: &mut Taken| fields.instructions.extend([0; INSTRUCTION_WORDS]),
+        |fields: &mut Taken| fields.regions.extend([0; REGION_WORDS]),
+        |fields: &mut Taken| fields.data.push(0),
+    ] {
+        let mut fields = Taken::of(&image("tests/longest"));
+        grow(&mut fields);
+        assert_eq!(fields.written(MAX_IMAGE + 100).0, refused(Cause::OUT_OF_LIMITS, 0));
     }
 }

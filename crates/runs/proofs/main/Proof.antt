@@ -7,7 +7,7 @@ abbrev Inv-loop : tie.InvT-loop
 Inv-loop script image₀ line₀ d₀ n₀ i₀ size image line d n i = Unit
 
 abbrev μ-loop : tie.MeasureT-loop
-μ-loop script image₀ line₀ d₀ n₀ i₀ size image line d n i = 50000 - i
+μ-loop script image₀ line₀ d₀ n₀ i₀ size image line d n i = 60000 - i
 
 pub main-spec : {M : Type 1} → statement M
 main-spec =

@@ -1,4 +1,3 @@
-use borrow.Author.Needs.{needs}
 use mathlib.Core.Path.{refl}
 use borrow.Author.Tests.{lt-leb, le-leb}
 use Rattle.checker.proofs.running.at_emit.Statement.{statement}
@@ -9,5 +8,4 @@ at-emit-spec =
     tie.close
     (tie.spec
     (λ c. rw (le-leb _ _ (c .if1 .taken)) refl)
-    (λ c κs. search needs)
-    (λ c. rw (lt-leb _ _ (c .before .if1 .left)) (c .out-of-budget .ensures)))
+    (λ c. rw (lt-leb _ _ (c .if1 .left)) refl))

@@ -1,5 +1,5 @@
 use borrow.Author.Needs.{needs}
-use Rattle.checker.proofs.RunningLaws.{at-stop, at-emit, at-others}
+use borrow.Author.Tests.{eq-eqb, ne-eqb}
 use Rattle.checker.proofs.running.reason_at.Statement.{statement}
 use Rattle.checker.proofs.running.reason_at.Tie as tie
 
@@ -7,11 +7,7 @@ pub reason-at-spec : {M : Type 1} → statement M
 reason-at-spec =
     tie.close
     (tie.spec
-    (λ c. search needs)
     (λ c κs. search needs)
-    (λ c. search needs)
+    (λ c. rw (eq-eqb _ _ (c .before .if1 .taken)) (c .reason-of .ensures))
     (λ c κs. search needs)
-    (λ c κs. search needs)
-    (λ c. search at-stop)
-    (λ c. search at-emit)
-    (λ c. search at-others))
+    (λ c. rw (ne-eqb _ _ (c .before .if1 .left)) (c .reason-of2 .ensures)))

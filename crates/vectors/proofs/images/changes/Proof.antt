@@ -7,7 +7,7 @@ abbrev Inv-loop : tie.InvT-loop
 Inv-loop i₀ i = Unit
 
 abbrev μ-loop : tie.MeasureT-loop
-μ-loop i₀ i = 35 - i
+μ-loop i₀ i = 41 - i
 
 pub changes-spec : {M : Type 1} → statement M
 changes-spec =

@@ -6,10 +6,10 @@ use Rattle.vectors.proofs.images.put_regions.Statement.{statement}
 use Rattle.vectors.proofs.images.put_regions.Tie as tie
 
 abbrev Inv-loop : tie.InvT-loop
-Inv-loop image₀ i₀ image i = length image ≡ length image₀
+Inv-loop image₀ at size start₀ i₀ image start i = length image ≡ length image₀
 
 abbrev μ-loop : tie.MeasureT-loop
-μ-loop image₀ i₀ image i = 32 - i
+μ-loop image₀ at size start₀ i₀ image start i = 32 - i
 
 pub put-regions-spec : {M : Type 1} → statement M
 put-regions-spec =
@@ -20,9 +20,8 @@ put-regions-spec =
     (λ c. search needs)
     (λ c. search needs)
     (λ c. search needs)
-    (λ c. search needs)
-    (λ c. search needs)
-    (λ c. search needs)
+    (λ c κs. search needs)
+    (λ c κs. search needs)
     (λ c κs. search needs)
     (λ c. search needs)
     (λ c. search needs)
