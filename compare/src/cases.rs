@@ -200,14 +200,15 @@ fn half_words_one_by_one(prng: &mut Prng) -> Case {
     case
 }
 
-/// The same of large images, from a row beside the limits, with most registers 0 or 1.
+/// The same of large images, from a row some way before the limits, with most registers 0 or 1.
 fn large_one_by_one(prng: &mut Prng) -> Case {
     let image = large::image(prng);
     let mut case = one_by_one_of(prng, &image);
     for word in &mut case.desk.state.regs {
         *word = prng.pick(&[0, 0, 1, *word]);
     }
-    case.desk.state.index = edges::below(prng, FORMER_ROWS, image.rows.len() as u32);
+    let towards = edges::below(prng, FORMER_ROWS, image.rows.len() as u32);
+    case.desk.state.index = towards.saturating_sub(prng.below(6));
     case
 }
 

@@ -149,7 +149,7 @@ impl Pair<'_> {
         desk.state.reports > 0 || path(&desk) != path(&self.desk)
     }
 
-    /// Has the image more rows or more memory than could be before document 02's request L5?
+    /// Is the image one that document 02's request L5 first allows?
     fn is_large(&self) -> bool {
         former::is_above(&self.desk.image)
     }

@@ -5,7 +5,7 @@
 use crate::cases::Case;
 use crate::compare::{first_difference, Mismatch};
 use crate::coverage::{add, pairs};
-use crate::images::{word_at, FORMER_DATA, FORMER_MEMORY, FORMER_ROWS, HEADER_BYTES, MAGIC};
+use crate::images::{sizes_of, FORMER_DATA, FORMER_MEMORY, FORMER_ROWS, MAGIC};
 use crate::plan::Plan;
 use crate::types::Engine;
 
@@ -57,13 +57,15 @@ impl Tally {
     }
 }
 
-/// Is M, N or D of an image above what its limit was?
+/// Is M, N or D above what its limit was?
+pub fn are_above(m: u32, n: u32, d: u32) -> bool {
+    m > FORMER_MEMORY || n > FORMER_ROWS || d > FORMER_DATA
+}
+
+/// Was an image refused with 3 for one of these?
 pub fn is_above(image: &[u8]) -> bool {
-    let Some(header) = image.get(..HEADER_BYTES) else {
-        return false;
-    };
-    let [m, n, d] = [4, 8, 24].map(|at| word_at(header, at));
-    header.starts_with(&MAGIC) && (m > FORMER_MEMORY || n > FORMER_ROWS || d > FORMER_DATA)
+    let above = sizes_of(image).is_some_and(|[m, n, _, d]| are_above(m, n, d));
+    above && image.starts_with(&MAGIC)
 }
 
 /// What is wrong with a case: the call, and the difference after it.

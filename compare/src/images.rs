@@ -192,6 +192,12 @@ pub fn word_at(bytes: &[u8], at: usize) -> u32 {
     u32::from_le_bytes([bytes[at], bytes[at + 1], bytes[at + 2], bytes[at + 3]])
 }
 
+/// M, N, R and D in the header of an image, if it is long enough for one.
+pub fn sizes_of(image: &[u8]) -> Option<[u32; 4]> {
+    let header = image.get(..HEADER_BYTES)?;
+    Some([4, 8, 16, 24].map(|at| word_at(header, at)))
+}
+
 pub fn hex(bytes: &[u8]) -> String {
     bytes.iter().map(|byte| format!("{byte:02x}")).collect()
 }

@@ -36,7 +36,9 @@ fn row(prng: &mut Prng, m: u32, n: u32) -> Row {
     match op {
         op::JNZ => Row { imm: edges::below(prng, FORMER_ROWS, n), ..row },
         _ if ACCESSES.contains(&op) => {
-            Row { imm: edges::below(prng, FORMER_MEMORY, m).wrapping_add(prng.below(2)), ..row }
+            let across = FORMER_MEMORY - 1 - prng.below(3);
+            let beside = edges::below(prng, FORMER_MEMORY, m) + prng.below(2);
+            Row { imm: prng.pick(&[across, beside, beside]), ..row }
         }
         _ if RANGES.contains(&op) => {
             let last = edges::below(prng, FORMER_MEMORY, m);
@@ -50,13 +52,14 @@ fn row(prng: &mut Prng, m: u32, n: u32) -> Row {
 
 /// One region or two that end beside the limits, as many as there can be, or any.
 fn regions(prng: &mut Prng, m: u32) -> Vec<Region> {
-    let kind = prng.pick(&[FILLED, FILLED, UNDEFINED]);
+    let both = (FILLED, UNDEFINED);
+    let (kind, other) = prng.pick(&[both, both, (UNDEFINED, FILLED)]);
     let end = edges::below(prng, FORMER_MEMORY, m) + 1;
     match prng.below(4) {
         0 => vec![Region { start: 0, length: m, kind }],
         1 if end < m => vec![
             Region { start: 0, length: end, kind },
-            Region { start: end, length: m - end, kind: FILLED + UNDEFINED - kind },
+            Region { start: end, length: m - end, kind: other },
         ],
         2 => shares(m, MOST_REGIONS, m / MOST_REGIONS),
         _ => programs::regions(prng, m),

@@ -5,8 +5,9 @@
 use super::sorts::{Access, Step, MET_IN};
 use super::{add, Counts, CALLS};
 use crate::cases::Desk;
+use crate::former;
 use crate::images::{
-    op, word_at, FORMER_DATA, FORMER_MEMORY, FORMER_ROWS, HEADER_BYTES, MOST_BYTES, MOST_DATA,
+    op, sizes_of, word_at, FORMER_DATA, FORMER_MEMORY, FORMER_ROWS, MOST_BYTES, MOST_DATA,
     MOST_MEMORY, MOST_REGIONS, MOST_ROWS,
 };
 use crate::programs::{LOADS, STORES};
@@ -25,10 +26,8 @@ struct Answered {
 
 impl Answered {
     fn of(image: &[u8], number: usize, index: u32) -> Option<Answered> {
-        let length = image.len();
-        let header = image.get(..HEADER_BYTES)?;
-        let [m, n, r, d] = [4, 8, 16, 24].map(|at| word_at(header, at));
-        Some(Answered { number, index, m, n, r, d, length })
+        let [m, n, r, d] = sizes_of(image)?;
+        Some(Answered { number, index, m, n, r, d, length: image.len() })
     }
 
     fn accepted(&self) -> bool {
@@ -45,8 +44,7 @@ impl Answered {
 
     /// Refused with this number, where 3 was due before.
     fn otherwise(&self, number: usize) -> bool {
-        let grown = self.m > FORMER_MEMORY || self.n > FORMER_ROWS || self.d > FORMER_DATA;
-        self.number == number && grown
+        self.number == number && former::are_above(self.m, self.n, self.d)
     }
 }
 
@@ -173,7 +171,7 @@ const RUNS: [RunSort; 24] = [
     ("OPEN to 8,192", |run| run.range_end(op::OPEN) == Some(MOST_MEMORY)),
     ("CLOSE to above 4,096", |run| run.range_end(op::CLOSE).is_some_and(|end| end > FORMER_MEMORY)),
     ("CLOSE to 8,192", |run| run.range_end(op::CLOSE) == Some(MOST_MEMORY)),
-    ("index above 511 after many steps", |run| {
+    ("many steps to an end above 511", |run| {
         run.step.is_none() && run.after.state.steps > run.before.steps && run.ends_far(2)
     }),
 ];

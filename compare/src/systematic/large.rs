@@ -2,7 +2,7 @@
 //! that were the limits before it, where a forgotten one shows.
 
 use super::images::{spoil_bytes, spoil_part, CAUSES_OF_DESK};
-use super::runs::{buffers_of, marks, one_step_of, set_bytes};
+use super::runs::{access_of, buffers_of, one_step_of};
 use super::{begun, begun_from_bytes, rules, small_image, Choices};
 use crate::cases::{Budget, Call, Case};
 use crate::images::{
@@ -10,7 +10,6 @@ use crate::images::{
     MOST_DATA, MOST_MEMORY, MOST_REGIONS, MOST_ROWS,
 };
 use crate::prng::Prng;
-use crate::programs::ACCESSES;
 
 /// Numbers of rows at and beside what N could be before and can be now; the last is too many.
 const LENGTHS: [u32; 6] =
@@ -19,19 +18,15 @@ const LENGTHS: [u32; 6] =
 /// Numbers of bytes, likewise; all can be.
 const MEMORIES: [u32; 4] = [FORMER_MEMORY, FORMER_MEMORY + 1, MOST_MEMORY - 1, MOST_MEMORY];
 
-/// The bytes about the end of what memory could be before.
+/// Loads and stores about the end of what memory could be before, and about its end.
 pub fn access(choices: &mut Choices, prng: &mut Prng) -> Case {
     let m = choices.pick(&[FORMER_MEMORY, FORMER_MEMORY + 1, MOST_MEMORY]);
-    let op = choices.pick(&ACCESSES);
-    let address = FORMER_MEMORY - 4 + choices.below(6) as u32;
+    let end = choices.pick(&[FORMER_MEMORY, m]);
+    let address = end - 4 + choices.below(6) as u32;
     let base = choices.pick(&[0, address]);
     let v = choices.pick(&[0, 0x8000_0000]);
-    let unaddressable = choices.pick(&[0u32, 0b1111, 0b0001, 0b1000, 0b0110]);
-    let row = Row::access(op, 2, 1, address.wrapping_sub(base));
-    let image = Image { m, ..small_image(prng, vec![row]) };
-    let mut case = one_step_of(prng, &image, &[(1, base, v)]);
-    set_bytes(&mut case.desk.a, address, marks(unaddressable));
-    case
+    let d = choices.pick(&[1, 2]);
+    access_of(choices, prng, m, [base, address], d, v)
 }
 
 /// A program that jumps ahead, goes on to its last row and ends behind it, in it or never.

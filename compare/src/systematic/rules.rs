@@ -148,7 +148,10 @@ pub fn long(choices: &mut Choices, prng: &mut Prng) -> Image {
     let row = choices.pick(&[
         Row { op: op::COUNT as u8, ..Row::stop() },
         Row::copy(FRAME, Operand::Register(1)),
+        Row::sum(op::ADD, FRAME, 1, Operand::Literal(1)),
+        Row::access(op::LD32, FRAME, 1, 0),
         Row::access(op::LD16, FRAME, 1, 0),
+        Row::access(op::LDS8, FRAME, 1, 0),
         Row::access(op::ST16, FRAME, 1, 0),
         Row::jump(1, FORMER_ROWS - 1),
         Row::jump(1, FORMER_ROWS),

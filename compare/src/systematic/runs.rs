@@ -3,10 +3,13 @@
 use super::{begun, rules, small_image, three_rows, Choices, M};
 use crate::cases::{self, Budget, Call, Case};
 use crate::edges;
-use crate::images::{op, Image, Operand, Row, FORMER_ROWS, FRAME, MOST_MEMORY, MOST_ROWS};
+use crate::images::{op, Image, Operand, Row, FORMER_ROWS, FRAME, MOST_ROWS};
 use crate::prng::Prng;
 use crate::programs::{ACCESSES, ARITHMETIC, STORES};
 use crate::types::State;
+
+/// Bytes of a memory whose addresses take more than 8 bits.
+const WIDER: u32 = 260;
 
 /// One step from a state with these registers and V words; the others hold anything.
 fn one_step(prng: &mut Prng, rows: Vec<Row>, known: &[(u8, u32, u32)]) -> Case {
@@ -52,12 +55,24 @@ pub fn carry(choices: &mut Choices, prng: &mut Prng) -> Case {
 }
 
 pub fn access(choices: &mut Choices, prng: &mut Prng) -> Case {
-    let m = choices.pick(&[M, MOST_MEMORY]);
-    let op = choices.pick(&ACCESSES);
+    let m = choices.pick(&[M, WIDER]);
     let address = choices.pick(&[&edges::addresses(m)[..], &[255, 256]].concat());
     let base = choices.pick(&[0, address, 0xFFFF_FFFE]);
     let v = choices.pick(&[0, 1, 0x8000_0000, 0xFFFF_FFFF]);
     let d = choices.pick(&[1, 2]);
+    access_of(choices, prng, m, [base, address], d, v)
+}
+
+/// A load or store by each op at an address, by way of register 1, with some of its bytes unaddressable.
+pub fn access_of(
+    choices: &mut Choices,
+    prng: &mut Prng,
+    m: u32,
+    [base, address]: [u32; 2],
+    d: u8,
+    v: u32,
+) -> Case {
+    let op = choices.pick(&ACCESSES);
     let unaddressable = choices.pick(&[0u32, 0b1111, 0b0001, 0b1000, 0b0110]);
     let row = Row::access(op, d, 1, address.wrapping_sub(base));
     let image = Image { m, ..small_image(prng, vec![row]) };
@@ -67,7 +82,7 @@ pub fn access(choices: &mut Choices, prng: &mut Prng) -> Case {
 }
 
 /// Four bytes from an address on, as far as there are such.
-pub fn set_bytes(buffer: &mut [u8], address: u32, bytes: [u8; 4]) {
+fn set_bytes(buffer: &mut [u8], address: u32, bytes: [u8; 4]) {
     for (k, byte) in bytes.into_iter().enumerate() {
         if let Some(place) = buffer.get_mut(address as usize + k) {
             *place = byte;
@@ -76,7 +91,7 @@ pub fn set_bytes(buffer: &mut [u8], address: u32, bytes: [u8; 4]) {
 }
 
 /// The A of four bytes, 0 where a bit is set.
-pub fn marks(unaddressable: u32) -> [u8; 4] {
+fn marks(unaddressable: u32) -> [u8; 4] {
     std::array::from_fn(|k| u8::from(unaddressable & (1 << k) == 0))
 }
 

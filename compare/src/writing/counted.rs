@@ -86,10 +86,11 @@ fn memory(choices: &mut Choices, prng: &mut Prng) -> Case {
 /// All sizes at and beside their limits, with a part of an entry or none.
 fn sizes(choices: &mut Choices, prng: &mut Prng) -> Case {
     let mut parts = rules::sizes(choices, prng).parts();
-    let (rows, regions) = choices.pick(&[(0, 0), (1, 0), (0, 1), (0, 2), (1, 2)]);
+    let (rows, regions, more) =
+        choices.pick(&[(0, 0, 0), (0, 0, -1), (1, 0, 0), (0, 1, 0), (0, 2, 0), (1, 2, -1)]);
     parts.instructions.extend(prng.words(rows));
     parts.regions.extend(prng.words(regions));
-    Case::beside(parts, choices.pick(&EXACT_OR_SHORT), prng)
+    Case::beside(parts, more, prng)
 }
 
 /// Regions of one byte each, one behind another, every second one filled.
@@ -139,18 +140,18 @@ fn region(choices: &mut Choices, prng: &mut Prng) -> Case {
 }
 
 /// Each place of the longest program: a row that is none, one whose result goes to register 15, or a jump
-/// past the end; alone, or with the last row at fault, too.
+/// past the end; the first with the last row at fault, too.
 fn instruction_at_fault(choices: &mut Choices, prng: &mut Prng) -> Case {
     let place = choices.below(MOST_ROWS as usize);
-    let row = choices.pick(&[
-        Row { op: op::COUNT as u8, ..Row::stop() },
-        Row::copy(FRAME, Operand::Register(1)),
-        Row::jump(1, MOST_ROWS),
+    let (row, is_alone) = choices.pick(&[
+        (Row { op: op::COUNT as u8, ..Row::stop() }, false),
+        (Row::copy(FRAME, Operand::Register(1)), true),
+        (Row::jump(1, MOST_ROWS), true),
     ]);
     let mut rows = vec![Row::jump(1, MOST_ROWS - 1); MOST_ROWS as usize];
     rows[place] = row;
     let mut parts = small_image(prng, rows).parts();
-    if choices.below(2) == 1 {
+    if !is_alone {
         set_byte(&mut parts.instructions, MOST_ROWS as usize - 1, 3, 1);
     }
     Case::beside(parts, 0, prng)

@@ -5,6 +5,7 @@ use std::cmp::Ordering;
 use super::case::Case;
 use super::causes::{header, row, Causes, LIMITS};
 use crate::coverage::{add, Counts, MET_IN};
+use crate::former;
 use crate::images::{
     op, FORMER_DATA, FORMER_MEMORY, FORMER_ROWS, FRAME, MOST_DATA, MOST_MEMORY, MOST_REGIONS,
     MOST_ROWS,
@@ -12,7 +13,7 @@ use crate::images::{
 use crate::interpreter::instruction_allowed;
 use crate::parts::{Parts, ROW_WORDS};
 use crate::programs::STORES;
-use crate::types::Written;
+use crate::types::{Header, Written};
 
 /// What a sort looks at: what was lent, what is wrong with it, and what came of it.
 pub struct Met<'a> {
@@ -60,10 +61,8 @@ impl Met<'_> {
 
     /// Refused with this number, where 3 was due before document 02's request L5.
     fn is_otherwise(&self, number: u32) -> bool {
-        let [n, _, d] = self.parts.sizes();
-        let is_grown =
-            self.parts.m > FORMER_MEMORY || n > FORMER_ROWS as usize || d > FORMER_DATA as usize;
-        self.is(number) && is_grown
+        let Header { m, n, d, .. } = header(self.parts);
+        self.is(number) && former::are_above(m, n, d)
     }
 }
 
