@@ -24,8 +24,9 @@ pub use clause::{Broken, Clause, CLAUSES};
 pub use tally::Tally;
 
 const STREAM: u64 = 2;
-/// Calls after which a series is long enough.
-const MOST_CALLS: u32 = 1200;
+/// Calls after which a series is long enough, on the checker and on a planted fault in its place.
+pub const MOST_CALLS: u32 = 1200;
+pub const MOST_FAULTY_CALLS: u32 = 400;
 /// The same of a large image, every look at which takes long.
 const MOST_LARGE_CALLS: u32 = 40;
 /// One of so many programs is large.
@@ -239,13 +240,13 @@ impl Pair<'_> {
     }
 
     /// Runs until the program has ended twice, reports are made or it is long enough.
-    fn series(&mut self, prng: &mut Prng, tally: &mut Tally) -> Result<(), Broken> {
+    fn series(&mut self, most: u32, prng: &mut Prng, tally: &mut Tally) -> Result<(), Broken> {
         let large = self.is_large();
         let step_by_step = !prng.one_in(if large { 2 } else { 4 });
         let (mut ends, mut reported, mut accepted) = (0, 0, false);
         self.look(tally)?;
         self.frame(tally)?;
-        for calls in 0..if large { MOST_LARGE_CALLS } else { MOST_CALLS } {
+        for calls in 0..if large { MOST_LARGE_CALLS } else { most } {
             let reasons = self.run(budget(prng, step_by_step))?;
             accepted |= reasons.is_some();
             if self.desk.state.reports > 0 {
@@ -286,11 +287,12 @@ fn budget(prng: &mut Prng, step_by_step: bool) -> Budget {
 fn try_image(
     checker: &Engine,
     image: &Image,
+    most_calls: u32,
     prng: &mut Prng,
     tally: &mut Tally,
 ) -> Result<(), (u32, Wrong)> {
     let mut pair = Pair::begin(checker, image, prng).map_err(|wrong| (0, wrong))?;
-    let answer = pair.series(prng, tally);
+    let answer = pair.series(most_calls, prng, tally);
     tally.close(&pair);
     answer.map_err(|broken| (pair.desk.state.steps, Wrong::Broken(broken)))
 }
@@ -303,7 +305,7 @@ fn try_refused(
     due: Refusal,
     prng: &mut Prng,
 ) -> Result<(), (u32, Wrong)> {
-    match try_image(checker, image, prng, &mut Tally::default()) {
+    match try_image(checker, image, MOST_FAULTY_CALLS, prng, &mut Tally::default()) {
         Ok(()) => Err((0, Wrong::Began(ACCEPTED, due))),
         Err((_, Wrong::Began(refusal, _))) if refusal == due => Ok(()),
         Err((steps, Wrong::Began(refusal, _))) => Err((steps, Wrong::Began(refusal, due))),
@@ -317,6 +319,7 @@ pub fn try_case(
     checker: &Engine,
     seed: u64,
     number: u64,
+    most_calls: u32,
     tally: &mut Tally,
 ) -> Result<(), Failure> {
     let mut prng = Prng::of_case(seed, STREAM, number);
@@ -330,7 +333,8 @@ pub fn try_case(
         let image = hex(&image.bytes());
         Failure { seed, case: number, image, steps, wrong }
     };
-    try_image(checker, &image, &mut prng, tally).map_err(|wrong| failure(&image, wrong))?;
+    let tried = try_image(checker, &image, most_calls, &mut prng, tally);
+    tried.map_err(|wrong| failure(&image, wrong))?;
     let due = (5, damage::name_frame(&mut prng, &mut image));
     try_refused(checker, &image, due, &mut prng).map_err(|wrong| failure(&image, wrong))?;
     tally.refused_images += 1;

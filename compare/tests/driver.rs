@@ -160,9 +160,10 @@ fn what_both_engines_make_of_register_15_is_told_in_words() {
 /// The words of the first claim case in which the fault, put in the checker's place, fails with such.
 fn claim_failure(fault: &str, words: &str) -> Option<String> {
     let faulty = planted(fault);
-    let failures =
-        (0..2000).filter_map(|k| claim::try_case(faulty, 1, k, &mut Default::default()).err());
-    failures.map(|failure| failure.to_string()).find(|failure| failure.contains(words))
+    let (calls, tally) = (claim::MOST_FAULTY_CALLS, &mut claim::Tally::default());
+    let failures = (0..2000).filter_map(|k| claim::try_case(faulty, 1, k, calls, tally).err());
+    let mut failures = failures.map(|failure| failure.to_string());
+    failures.find(|failure| failure.contains(words))
 }
 
 #[test]
@@ -187,7 +188,8 @@ fn register_15_that_is_not_kept_breaks_the_claim() {
 fn claims_that_leave_something_out_are_empty() {
     let mut tally = claim::Tally::with_needs();
     for k in 0..200 {
-        assert!(claim::try_case(&interpreter::ENGINE, 1, k, &mut tally).is_ok());
+        let calls = claim::MOST_CALLS;
+        assert!(claim::try_case(&interpreter::ENGINE, 1, k, calls, &mut tally).is_ok());
     }
     assert_eq!((tally.programs, tally.refused_images), (200, 200));
     assert!(!tally.is_empty());

@@ -191,14 +191,15 @@ fn a_round_trip_that_breaks_is_told_in_words() {
 #[test]
 fn a_reader_that_is_wrong_breaks_the_round_trip() {
     for (fault, words) in [
-        ("refusal_4_longer_image", "round trip, longer buffer: (0, 0), not (4, 0)"),
-        ("refusal_3_m_top", "round trip, refused alike: (5, 1), not (3, 0)"),
-        ("refusal_6_index_nought", "round trip, refused alike: (6, 1), not (6, 0)"),
+        ("refusal_4_longer_image", "longer buffer: (0, 0), not (4, 0)"),
+        ("refusal_3_m_top", "), not (3, 0)"),
+        ("refusal_6_index_nought", "refused alike: (6, 1), not (6, 0)"),
     ] {
         let reader = planted_reader(fault);
         let failure = first_failure(&Trip { readers: [reader; 2], ..CHECKER }, &WRITER);
         let failure = failure.expect(fault);
-        assert!(failure.contains(words), "{fault}: {failure}");
+        let found = failure.lines().last().unwrap_or_default();
+        assert!(found.starts_with("  round trip, ") && found.ends_with(words), "{fault}: {found}");
     }
     let reader = planted_reader("refusal_5_index_from_one");
     let trip = Trip { readers: [CHECKER.readers[0], reader], ..CHECKER };
@@ -206,7 +207,7 @@ fn a_reader_that_is_wrong_breaks_the_round_trip() {
     assert!(failure.contains("round trip, read alike: Header { number: 5, "), "{failure}");
 }
 
-/// Each image of the examples, and the longest one.
+/// Each image of the examples, and the longest one, now and before document 02's request L5.
 #[test]
 fn the_examples_are_written_again() {
     let folder = fs::read_dir("../examples").expect("the examples");
@@ -214,7 +215,8 @@ fn the_examples_are_written_again() {
     let mut images: Vec<_> =
         paths.filter(|path| path.extension().is_some_and(|end| end == "image")).collect();
     assert!(images.len() >= 6);
-    images.push("../tests/longest.image".into());
+    images
+        .extend(["longest", "longest_before"].map(|name| format!("../tests/{name}.image").into()));
     for path in images {
         let image = fs::read(&path).expect("an image");
         assert!(CHECKER.rewrite(&image).is_ok_and(|came| came == Rewritten::Same), "{path:?}");

@@ -171,8 +171,9 @@ const RUNS: [RunSort; 24] = [
     ("OPEN to 8,192", |run| run.range_end(op::OPEN) == Some(MOST_MEMORY)),
     ("CLOSE to above 4,096", |run| run.range_end(op::CLOSE).is_some_and(|end| end > FORMER_MEMORY)),
     ("CLOSE to 8,192", |run| run.range_end(op::CLOSE) == Some(MOST_MEMORY)),
-    ("many steps to an end above 511", |run| {
-        run.step.is_none() && run.after.state.steps > run.before.steps && run.ends_far(2)
+    ("many steps to an end above 512", |run| {
+        let is_far = run.ends_far(2) && run.after.state.index > FORMER_ROWS;
+        is_far && run.step.is_none() && run.after.state.steps > run.before.steps
     }),
 ];
 

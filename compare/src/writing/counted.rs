@@ -128,7 +128,7 @@ fn list_lengths(choices: &mut Choices, prng: &mut Prng) -> Case {
 
 /// Lists so much longer than they may be that the low bits of their length are as they should be.
 fn far_lists(choices: &mut Choices, prng: &mut Prng) -> Case {
-    let mut parts = small_image(prng, three_rows()).parts();
+    let mut parts = rules::shaped(choices, prng).parts();
     let [rows, regions] = [choices.pick(&FAR_ROWS), choices.pick(&FAR_REGIONS)];
     lengthen(&mut parts, rows, regions, choices.pick(&FAR_DATA));
     Case::beside(parts, choices.pick(&EXACT_OR_SHORT), prng)

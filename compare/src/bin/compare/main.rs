@@ -86,7 +86,8 @@ fn comparison(plan: &Plan, cases: Range<u64>, total: &mut Coverage) -> usize {
 fn claims(seed: u64, cases: u64) -> (Tally, usize) {
     let work = |mut numbers: Range<u64>| {
         let mut tally = Tally::with_needs();
-        let mut failure = |k| claim::try_case(&checker::ENGINE, seed, k, &mut tally).err();
+        let calls = claim::MOST_CALLS;
+        let mut failure = |k| claim::try_case(&checker::ENGINE, seed, k, calls, &mut tally).err();
         let failed = numbers.find_map(&mut failure);
         (tally, failed.into_iter().collect())
     };
@@ -256,7 +257,8 @@ fn main() -> ExitCode {
         Some(Alone::Former(number)) => one_former(&options, *number),
         Some(Alone::Claim(number)) => {
             let tally = &mut Tally::default();
-            let answer = claim::try_case(&checker::ENGINE, options.seed, *number, tally);
+            let (seed, calls) = (options.seed, claim::MOST_CALLS);
+            let answer = claim::try_case(&checker::ENGINE, seed, *number, calls, tally);
             single(answer.err().map(|failure| failure.to_string()))
         }
         Some(Alone::Alarm(number)) => one_alarm(&options, *number),
