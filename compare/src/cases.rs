@@ -3,7 +3,8 @@
 use crate::clean;
 use crate::damage;
 use crate::edges;
-use crate::images::Image;
+use crate::images::{Image, FORMER_ROWS};
+use crate::large;
 use crate::numbering::Kind;
 use crate::prng::Prng;
 use crate::programs::{self, Maker};
@@ -171,7 +172,11 @@ fn from_state(prng: &mut Prng, image: &Image) -> Case {
 /// Runs of one step each, from words of which few bits are undefined or none.
 fn one_by_one(prng: &mut Prng, maker: Maker) -> Case {
     let image = maker(prng);
-    let mut case = from_state(prng, &image);
+    one_by_one_of(prng, &image)
+}
+
+fn one_by_one_of(prng: &mut Prng, image: &Image) -> Case {
+    let mut case = from_state(prng, image);
     for v in &mut case.desk.state.vregs {
         match prng.below(3) {
             0 => *v = 0,
@@ -192,6 +197,18 @@ fn half_words_one_by_one(prng: &mut Prng) -> Case {
             *word = 0;
         }
     }
+    case
+}
+
+/// The same of large images, from a row some way before the limits, with most registers 0 or 1.
+fn large_one_by_one(prng: &mut Prng) -> Case {
+    let image = large::image(prng);
+    let mut case = one_by_one_of(prng, &image);
+    for word in &mut case.desk.state.regs {
+        *word = prng.pick(&[0, 0, 1, *word]);
+    }
+    let towards = edges::below(prng, FORMER_ROWS, image.rows.len() as u32);
+    case.desk.state.index = towards.saturating_sub(prng.below(6));
     case
 }
 
@@ -252,7 +269,7 @@ fn of_program(prng: &mut Prng, maker: Maker) -> Case {
     }
 }
 
-pub const KINDS: [Kind<Case>; 17] = [
+pub const KINDS: [Kind<Case>; 21] = [
     Kind { name: "straight arithmetic", share: 14, make: |p| of_program(p, programs::straight) },
     Kind { name: "sums one by one", share: 8, make: |p| one_by_one(p, programs::sums) },
     Kind { name: "half words one by one", share: 8, make: half_words_one_by_one },
@@ -268,11 +285,15 @@ pub const KINDS: [Kind<Case>; 17] = [
     Kind { name: "any legal rows", share: 14, make: |p| of_program(p, programs::legal) },
     Kind { name: "clean programs", share: 8, make: |p| of_program(p, clean::clean) },
     Kind { name: "largest image", share: 1, make: |p| of_program(p, programs::largest) },
+    Kind { name: "large images", share: 2, make: |p| of_program(p, large::image) },
+    Kind { name: "large images one by one", share: 8, make: large_one_by_one },
     Kind { name: "spoiled state or buffers", share: 10, make: spoiled },
     Kind { name: "one part damaged", share: 5, make: |p| damaged(p, 1, 0) },
     Kind { name: "two or three damaged", share: 5, make: |p| damaged(p, 2, 1) },
     Kind { name: "bytes damaged", share: 4, make: |p| damaged(p, 0, 1) },
     Kind { name: "d damaged to register 15", share: 3, make: |p| of_made(p, damage::frame_named) },
+    Kind { name: "large image damaged", share: 3, make: |p| of_made(p, damage::large) },
+    Kind { name: "sizes damaged", share: 2, make: |p| of_made(p, damage::outgrown) },
     Kind { name: "raw bytes", share: 1, make: |p| of_made(p, damage::raw) },
 ];
 

@@ -12,9 +12,10 @@ use crate::cases::{self, Budget, Call, Desk};
 use crate::clean;
 use crate::damage;
 use crate::edges;
+use crate::former;
 use crate::frame::Frame;
 use crate::guard::guarded;
-use crate::images::{hex, Image, FRAME};
+use crate::images::{hex, Image, FORMER_MEMORY, FORMER_ROWS, FRAME};
 use crate::prng::Prng;
 use crate::programs::{self, Maker};
 use crate::types::Engine;
@@ -23,8 +24,13 @@ pub use clause::{Broken, Clause, CLAUSES};
 pub use tally::Tally;
 
 const STREAM: u64 = 2;
-/// Calls after which a series is long enough.
-const MOST_CALLS: u32 = 1200;
+/// Calls after which a series is long enough, on the checker and on a planted fault in its place.
+pub const MOST_CALLS: u32 = 1200;
+pub const MOST_FAULTY_CALLS: u32 = 400;
+/// The same of a large image, every look at which takes long.
+const MOST_LARGE_CALLS: u32 = 40;
+/// One of so many programs is large.
+const LARGE: u64 = 100;
 /// Calls after which a series is given up that no run has been accepted in.
 const MOST_REFUSED: u32 = 20;
 /// Calls after the first report, to see that the count of reports does not go back to 0.
@@ -144,6 +150,11 @@ impl Pair<'_> {
         desk.state.reports > 0 || path(&desk) != path(&self.desk)
     }
 
+    /// Is the image one that document 02's request L5 first allows?
+    fn is_large(&self) -> bool {
+        former::is_above(&self.desk.image)
+    }
+
     /// A run on the checker and, unless refused, on the bare machine; the two stop reasons.
     fn run(&mut self, budget: Budget) -> Result<Option<[u32; 2]>, Broken> {
         let budget = budget.after(self.desk.state.steps);
@@ -179,6 +190,8 @@ impl Pair<'_> {
         self.clean_steps = state.steps;
         tally.looks += 1;
         tally.differing += u64::from(unlike != 0);
+        let far = state.index >= FORMER_ROWS && self.bare.mem.len() > FORMER_MEMORY as usize;
+        tally.large += u64::from(far);
         Ok(())
     }
 
@@ -227,12 +240,13 @@ impl Pair<'_> {
     }
 
     /// Runs until the program has ended twice, reports are made or it is long enough.
-    fn series(&mut self, prng: &mut Prng, tally: &mut Tally) -> Result<(), Broken> {
-        let step_by_step = !prng.one_in(4);
+    fn series(&mut self, most: u32, prng: &mut Prng, tally: &mut Tally) -> Result<(), Broken> {
+        let large = self.is_large();
+        let step_by_step = !prng.one_in(if large { 2 } else { 4 });
         let (mut ends, mut reported, mut accepted) = (0, 0, false);
         self.look(tally)?;
         self.frame(tally)?;
-        for calls in 0..MOST_CALLS {
+        for calls in 0..if large { MOST_LARGE_CALLS } else { most } {
             let reasons = self.run(budget(prng, step_by_step))?;
             accepted |= reasons.is_some();
             if self.desk.state.reports > 0 {
@@ -273,11 +287,12 @@ fn budget(prng: &mut Prng, step_by_step: bool) -> Budget {
 fn try_image(
     checker: &Engine,
     image: &Image,
+    most_calls: u32,
     prng: &mut Prng,
     tally: &mut Tally,
 ) -> Result<(), (u32, Wrong)> {
     let mut pair = Pair::begin(checker, image, prng).map_err(|wrong| (0, wrong))?;
-    let answer = pair.series(prng, tally);
+    let answer = pair.series(most_calls, prng, tally);
     tally.close(&pair);
     answer.map_err(|broken| (pair.desk.state.steps, Wrong::Broken(broken)))
 }
@@ -290,7 +305,7 @@ fn try_refused(
     due: Refusal,
     prng: &mut Prng,
 ) -> Result<(), (u32, Wrong)> {
-    match try_image(checker, image, prng, &mut Tally::default()) {
+    match try_image(checker, image, MOST_FAULTY_CALLS, prng, &mut Tally::default()) {
         Ok(()) => Err((0, Wrong::Began(ACCEPTED, due))),
         Err((_, Wrong::Began(refusal, _))) if refusal == due => Ok(()),
         Err((steps, Wrong::Began(refusal, _))) => Err((steps, Wrong::Began(refusal, due))),
@@ -298,22 +313,28 @@ fn try_refused(
     }
 }
 
-/// Claim case k, a program made to run clean or, one time in four, any program; and then the same program,
-/// but for one row that names register 15 as d.
+/// Claim case k, a program made to run clean, some of these large, or, one time in four, any program; and then
+/// the same program, but for one row that names register 15 as d.
 pub fn try_case(
     checker: &Engine,
     seed: u64,
     number: u64,
+    most_calls: u32,
     tally: &mut Tally,
 ) -> Result<(), Failure> {
     let mut prng = Prng::of_case(seed, STREAM, number);
-    let maker = if number % 4 == 3 { prng.pick(&ANY_PROGRAM) } else { clean::clean };
+    let maker = match number {
+        _ if number % LARGE == LARGE - 1 => clean::large,
+        _ if number % 4 == 3 => prng.pick(&ANY_PROGRAM),
+        _ => clean::clean,
+    };
     let mut image = maker(&mut prng);
     let failure = |image: &Image, (steps, wrong)| {
         let image = hex(&image.bytes());
         Failure { seed, case: number, image, steps, wrong }
     };
-    try_image(checker, &image, &mut prng, tally).map_err(|wrong| failure(&image, wrong))?;
+    let tried = try_image(checker, &image, most_calls, &mut prng, tally);
+    tried.map_err(|wrong| failure(&image, wrong))?;
     let due = (5, damage::name_frame(&mut prng, &mut image));
     try_refused(checker, &image, due, &mut prng).map_err(|wrong| failure(&image, wrong))?;
     tally.refused_images += 1;

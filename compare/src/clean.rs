@@ -3,15 +3,18 @@
 mod carries;
 mod comparisons;
 mod dares;
+mod large;
 mod packed;
 mod readings;
 
 use crate::edges;
-use crate::images::{op, Image, Operand, Region, Row, FILLED, FRAME, MOST_ROWS, UNDEFINED};
+use crate::images::{op, Image, Operand, Region, Row, FILLED, FRAME, UNDEFINED};
 use crate::prng::Prng;
 use crate::programs::{legal_row, ARITHMETIC, LOADS, STORES};
 
 use Operand::{Literal, Register};
+
+pub use large::large;
 
 /// Registers that may hold anything: never an address, a condition or an output.
 const LOOSE: [u8; 6] = [0, 1, 2, 3, 4, 5];
@@ -24,6 +27,9 @@ const COUNTERS: [u8; 2] = [13, 14];
 /// Rounds of a loop.
 const MOST_ROUNDS: u32 = 9;
 
+/// Rows of a program behind which no block begins.
+const MOST_ROWS: u32 = 256;
+
 /// Bytes of a zone; a power of two, so that a mask keeps an address inside.
 const ZONE: u32 = 16;
 
@@ -35,6 +41,20 @@ struct Zones {
     loose: u32,
     /// Opened before each use.
     shut: u32,
+}
+
+impl Zones {
+    /// One behind another, with gaps, from about this byte on.
+    fn from(start: u32, prng: &mut Prng) -> Zones {
+        let firm = start + prng.below(4);
+        let loose = firm + ZONE + prng.below(3);
+        let shut = loose + ZONE + prng.below(3);
+        Zones { firm, loose, shut }
+    }
+
+    fn end(&self) -> u32 {
+        self.shut + ZONE
+    }
 }
 
 struct Draft<'a> {
@@ -303,6 +323,13 @@ impl Draft<'_> {
         self.rows[at] = Row::jump(a, self.rows.len() as u32);
     }
 
+    /// The program with its last row.
+    fn ended(mut self, m: u32, regions: Vec<Region>) -> Image {
+        let last = if self.prng.one_in(2) { Row::stop() } else { Row::copy(0, Register(1)) };
+        self.rows.push(last);
+        Image::new(m, self.rows, regions, self.prng)
+    }
+
     /// Each zone as it must be before the first block; the answer is the regions.
     fn prepare(&mut self) -> Vec<Region> {
         let mut regions = Vec::new();
@@ -335,13 +362,13 @@ impl Draft<'_> {
 
 /// The blocks of a whole program. One time in three a dare stands among them, and one time in
 /// sixteen rows of any kind stand between them.
-fn body(draft: &mut Draft, m: u32) {
+fn body(draft: &mut Draft, first: u32, m: u32) {
     let any_rows = draft.prng.one_in(16);
     let dares = draft.prng.one_in(3);
     let count = draft.prng.between(2, if dares { 12 } else { 24 });
     let dare = if dares { draft.prng.between(1, count) } else { u32::MAX };
     for k in 0..=count {
-        if draft.rows.len() as u32 > MOST_ROWS / 2 {
+        if draft.rows.len() as u32 > first + MOST_ROWS {
             break;
         }
         draft.block(&COUNTERS);
@@ -356,15 +383,10 @@ fn body(draft: &mut Draft, m: u32) {
 }
 
 pub fn clean(prng: &mut Prng) -> Image {
-    let firm = prng.below(4);
-    let loose = firm + ZONE + prng.below(3);
-    let shut = loose + ZONE + prng.below(3);
-    let m = shut + ZONE + prng.below(3);
-    let mut draft = Draft { prng, rows: Vec::new(), zones: Zones { firm, loose, shut } };
+    let zones = Zones::from(0, prng);
+    let m = zones.end() + prng.below(3);
+    let mut draft = Draft { prng, rows: Vec::new(), zones };
     let regions = draft.prepare();
-    body(&mut draft, m);
-    let last = if draft.prng.one_in(2) { Row::stop() } else { Row::copy(0, Register(1)) };
-    draft.rows.push(last);
-    let rows = draft.rows;
-    Image::new(m, rows, regions, prng)
+    body(&mut draft, 0, m);
+    draft.ended(m, regions)
 }

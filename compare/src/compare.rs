@@ -21,6 +21,20 @@ pub struct Mismatch {
     pub difference: String,
 }
 
+impl Mismatch {
+    /// What is wrong with a case of this kind: the call, and the difference after it.
+    pub fn of(
+        plan: &Plan,
+        number: u64,
+        kind: usize,
+        case: &Case,
+        (call, difference): (String, String),
+    ) -> Mismatch {
+        let (kind, image) = (Plan::kinds()[kind], hex(&case.desk.image));
+        Mismatch { seed: plan.seed, case: number, kind, image, call, difference }
+    }
+}
+
 impl fmt::Display for Mismatch {
     fn fmt(&self, out: &mut fmt::Formatter) -> fmt::Result {
         writeln!(out, "mismatch: --seed {} --case {} ({})", self.seed, self.case, self.kind)?;
@@ -40,21 +54,14 @@ pub fn compare(
 ) -> Option<Mismatch> {
     let (kind, case) = plan.case(number);
     coverage.case(kind);
-    let (call, difference) = first_difference(engines, &case, |before, answer, after| {
+    let found = first_difference(engines, &case, |before, answer, after| {
         coverage.call(kind, before, answer, after)
     })?;
-    Some(Mismatch {
-        seed: plan.seed,
-        case: number,
-        kind: Plan::kinds()[kind],
-        image: hex(&case.desk.image),
-        call,
-        difference,
-    })
+    Some(Mismatch::of(plan, number, kind, &case, found))
 }
 
 /// The call, and the difference after it. What is seen after each call is shown to `look`.
-fn first_difference(
+pub fn first_difference(
     engines: [&Engine; 2],
     case: &Case,
     mut look: impl FnMut(&State, &Answer, &Desk),

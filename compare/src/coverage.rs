@@ -1,6 +1,7 @@
 //! What occurred in the cases, and what should have occurred and did not.
 
 mod frame;
+mod sizes;
 mod sorts;
 
 use std::fmt::{Display, Write};
@@ -12,6 +13,7 @@ use crate::plan::Plan;
 use crate::systematic::FAMILIES;
 use crate::types::State;
 use frame::Frames;
+use sizes::{Run, Sizes};
 use sorts::{Sorts, Step};
 
 pub use sorts::{is_settled, MET_IN};
@@ -41,6 +43,8 @@ pub struct Coverage {
     sorts: Sorts,
     /// What was met of register 15.
     frames: Frames,
+    /// What was met of large images.
+    sizes: Sizes,
 }
 
 /// What is counted, such as "EQ, drawn", with each sort and its count.
@@ -73,6 +77,7 @@ impl Default for Coverage {
             ops: Default::default(),
             sorts: Default::default(),
             frames: Default::default(),
+            sizes: Default::default(),
         }
     }
 }
@@ -94,6 +99,7 @@ impl Coverage {
         add(&mut self.reports, &other.reports);
         self.sorts.add(&other.sorts);
         self.frames.add(&other.frames);
+        self.sizes.add(&other.sizes);
     }
 
     pub fn case(&mut self, kind: usize) {
@@ -112,6 +118,7 @@ impl Coverage {
         let number = (number as usize).min(NUMBERS - 1);
         self.kinds[kind].numbers[number] += 1;
         self.calls[of_call][number] += 1;
+        self.sizes.call(is_drawn(kind), of_call, &after.image, (number, index));
         if number == 5 {
             self.frames.refuse(is_drawn(kind), of_call, &after.image, index);
         }
@@ -133,16 +140,19 @@ impl Coverage {
         }
         let drawn = is_drawn(kind);
         let ops = &mut self.ops[usize::from(drawn)];
-        if after.state.steps == before.steps + 1 {
+        let alone = (after.state.steps == before.steps + 1).then(|| {
             let row = &after.image[HEADER_BYTES + ROW_BYTES * before.index as usize..];
-            ops[usize::from(row[0])] += 1;
-            let step = Step { row, before, after };
-            self.sorts.meet(drawn, &step);
-            self.frames.meet(drawn, &step);
+            Step { row, before, after }
+        });
+        if let Some(step) = &alone {
+            ops[usize::from(step.row[0])] += 1;
+            self.sorts.meet(drawn, step);
+            self.frames.meet(drawn, step);
         }
         if reason == 1 {
             ops[usize::from(op::STOP)] += 1;
         }
+        self.sizes.run(drawn, &Run { before, reason, after, step: alone.as_ref() });
     }
 
     pub fn cases(&self) -> u64 {
@@ -177,7 +187,7 @@ impl Coverage {
                 look(format!("op {name}, {met_in}"), count);
             }
         }
-        for (what, counts) in self.sorts.each().chain(self.frames.each()) {
+        for (what, counts) in self.sorts.each().chain(self.frames.each()).chain(self.sizes.each()) {
             for (sort, count) in counts {
                 look(format!("{what}: {sort}"), count);
             }
@@ -209,7 +219,8 @@ impl Coverage {
         let ops: String = ops.collect();
         let line = |(what, counts): Counts| format!("{what}: {}\n", pairs(counts));
         let sorts = self.sorts.each().map(|counts| "single steps of ".to_string() + &line(counts));
-        let sorts: String = sorts.chain(self.frames.each().map(line)).collect();
+        let others = self.frames.each().chain(self.sizes.each()).map(line);
+        let sorts: String = sorts.chain(others).collect();
         format!("{heads}\n{table}{kinds}{ops}{sorts}")
     }
 }

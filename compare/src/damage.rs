@@ -2,25 +2,27 @@
 
 use crate::edges;
 use crate::images::{
-    op, set_word, word_at, Image, Region, Row, FRAME, HEADER_BYTES, MAGIC, MOST_DATA, MOST_MEMORY,
-    MOST_REGIONS, MOST_ROWS,
+    op, set_word, word_at, Image, Region, Row, FORMER_DATA, FORMER_MEMORY, FORMER_ROWS, FRAME,
+    HEADER_BYTES, MAGIC, MOST_DATA, MOST_MEMORY, MOST_REGIONS, MOST_ROWS,
 };
+use crate::large;
 use crate::prng::Prng;
 use crate::programs;
 
-/// What a header word may be instead: beside its value, beside its limit, at the ends.
-pub fn header_edges(bytes: &[u8], at: usize) -> [u32; 10] {
+/// What a header word may be instead: beside its value, beside its limit and what that was before, at the
+/// ends.
+pub fn header_edges(bytes: &[u8], at: usize) -> [u32; 12] {
     let value = word_at(bytes, at);
-    let limit = match at {
-        4 => MOST_MEMORY,
-        8 => MOST_ROWS,
-        16 => MOST_REGIONS,
-        24 => MOST_DATA,
-        _ => HEADER_BYTES as u32,
+    let (former, limit) = match at {
+        4 => (FORMER_MEMORY, MOST_MEMORY),
+        8 => (FORMER_ROWS, MOST_ROWS),
+        16 => (MOST_REGIONS, MOST_REGIONS),
+        24 => (FORMER_DATA, MOST_DATA),
+        _ => (HEADER_BYTES as u32, HEADER_BYTES as u32),
     };
     let [zero, one, two, middle, most] = edges::ANY_HEADER;
     let (below, above) = (value.wrapping_sub(1), value.wrapping_add(1));
-    [value, below, above, limit, limit + 1, zero, one, two, middle, most]
+    [value, below, above, former, former + 1, limit, limit + 1, zero, one, two, middle, most]
 }
 
 /// Images with few rows, so that every part of them is hit.
@@ -55,11 +57,21 @@ fn damage_region(prng: &mut Prng, region: &mut Region) {
     }
 }
 
+/// The index of any row, in a long program most often one beside the limits.
+fn any_row(prng: &mut Prng, image: &Image) -> usize {
+    let n = image.rows.len();
+    if n > FORMER_ROWS as usize {
+        edges::below(prng, FORMER_ROWS, n as u32) as usize
+    } else {
+        prng.place(n)
+    }
+}
+
 /// Breaks a part from which sizes and offsets still follow.
 pub fn damage_parts(prng: &mut Prng, image: &mut Image) {
     match prng.below(8) {
         0..=3 => {
-            let place = prng.place(image.rows.len());
+            let place = any_row(prng, image);
             damage_row(prng, &mut image.rows[place]);
         }
         4 | 5 if !image.regions.is_empty() => {
@@ -111,12 +123,39 @@ pub fn damaged(prng: &mut Prng, parts: u32, whole: u32) -> (Vec<u8>, u32) {
     (bytes, image.m)
 }
 
+/// The same of a large image, damaged in one place.
+pub fn large(prng: &mut Prng) -> (Vec<u8>, u32) {
+    let mut image = large::image(prng);
+    let way = prng.below(3);
+    match way {
+        0 => damage_parts(prng, &mut image),
+        1 => drop(name_frame(prng, &mut image)),
+        _ => {}
+    }
+    let mut bytes = image.bytes();
+    if way == 2 {
+        damage_bytes(prng, &mut bytes);
+    }
+    (bytes, image.m)
+}
+
+/// The same of an image with one size above its limit, or above what that was before, half of them damaged
+/// besides.
+pub fn outgrown(prng: &mut Prng) -> (Vec<u8>, u32) {
+    let mut image = small(prng);
+    large::outgrow(prng, &mut image);
+    let mut bytes = image.bytes();
+    if prng.one_in(2) {
+        damage_bytes(prng, &mut bytes);
+    }
+    (bytes, image.m)
+}
+
 /// One row made another, all that is wrong with which is that its result goes to register 15; its index.
 pub fn name_frame(prng: &mut Prng, image: &mut Image) -> u32 {
-    let n = image.rows.len();
-    let place = prng.place(n);
+    let place = any_row(prng, image);
     let op = prng.pick(&[&programs::ARITHMETIC[..], programs::LOADS].concat());
-    let row = programs::legal_of(prng, op, image.m, n as u32);
+    let row = programs::legal_of(prng, op, image.m, image.rows.len() as u32);
     image.rows[place] = Row { d: FRAME, ..row };
     place as u32
 }

@@ -54,6 +54,21 @@ pub const OUTPUT_WORDS_ACCEPTED: usize = 7;
 /// The most steps a run may reach.
 pub const MOST_STEPS: u32 = 1_000_000;
 
+/// Counts at and beside a limit and at the other end, and at and beside what the limit was before.
+pub const fn counts(former: u32, most: u32) -> [u32; 8] {
+    [0, 1, former - 1, former, former + 1, most - 1, most, most + 1]
+}
+
+/// A number below a limit, most often at its end or about what the limit was before.
+pub fn below(prng: &mut Prng, former: u32, limit: u32) -> u32 {
+    match prng.below(4) {
+        0 => prng.below(limit),
+        1 => (former - 2 + prng.below(4)).min(limit - 1),
+        2 => limit - 1,
+        _ => limit - 1 - prng.below(4).min(limit - 1),
+    }
+}
+
 pub fn word(prng: &mut Prng) -> u32 {
     if prng.one_in(4) {
         prng.word()

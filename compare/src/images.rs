@@ -7,10 +7,19 @@ pub const MAGIC: [u8; 4] = [0x54, 0x55, 0x4E, 0x31];
 pub const HEADER_BYTES: usize = 32;
 pub const ROW_BYTES: usize = 8;
 pub const REGION_BYTES: usize = 12;
-pub const MOST_MEMORY: u32 = 4096;
-pub const MOST_ROWS: u32 = 512;
+
+/// The limits of M, N, R and D (document 01; document 02, L5), and the bytes of the largest image.
+pub const MOST_MEMORY: u32 = 8192;
+pub const MOST_ROWS: u32 = 2048;
 pub const MOST_REGIONS: u32 = 32;
-pub const MOST_DATA: u32 = 4096;
+pub const MOST_DATA: u32 = 8192;
+pub const MOST_BYTES: usize = 24_992;
+
+/// What they were before L5: no edges any more, unless one of them is forgotten somewhere.
+pub const FORMER_MEMORY: u32 = 4096;
+pub const FORMER_ROWS: u32 = 512;
+pub const FORMER_DATA: u32 = 4096;
+pub const FORMER_BYTES: usize = 8_608;
 
 /// The frame register, to which no result goes (document 02, L9).
 pub const FRAME: u8 = 15;
@@ -181,6 +190,12 @@ pub fn set_word(bytes: &mut [u8], at: usize, word: u32) {
 
 pub fn word_at(bytes: &[u8], at: usize) -> u32 {
     u32::from_le_bytes([bytes[at], bytes[at + 1], bytes[at + 2], bytes[at + 3]])
+}
+
+/// M, N, R and D in the header of an image, if it is long enough for one.
+pub fn sizes_of(image: &[u8]) -> Option<[u32; 4]> {
+    let header = image.get(..HEADER_BYTES)?;
+    Some([4, 8, 16, 24].map(|at| word_at(header, at)))
 }
 
 pub fn hex(bytes: &[u8]) -> String {

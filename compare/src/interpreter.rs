@@ -1,6 +1,6 @@
 //! Document 01 taken at its word, with the half words and signed loads of document 02's request L1, the
-//! rules of EQ, ADD and SUB from its requests L4 and L13, and its request L9, which keeps results off
-//! register 15: reading, beginning and running, plain and in its order.
+//! rules of EQ, ADD and SUB from its requests L4 and L13, the limits from its request L5, and its request
+//! L9, which keeps results off register 15: reading, beginning and running, plain and in its order.
 
 use crate::types::{Began, Buffers, Engine, Header, Lists, Ran, State};
 
@@ -93,11 +93,12 @@ fn check_image(image: &[u8]) -> Result<Header, Refusal> {
     Ok(header)
 }
 
+/// The limits of M, N, R and D (01; M, N and D as 02, L5 raises them).
 pub fn within_limits(header: &Header) -> bool {
-    (1..=4096).contains(&header.m)
-        && (1..=512).contains(&header.n)
+    (1..=8192).contains(&header.m)
+        && (1..=2048).contains(&header.n)
         && header.r <= 32
-        && header.d <= 4096
+        && header.d <= 8192
 }
 
 /// The three offsets and the image's length are exactly as computed from the counts.

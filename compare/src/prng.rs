@@ -51,7 +51,12 @@ impl Prng {
     }
 
     pub fn bytes(&mut self, count: usize) -> Vec<u8> {
-        (0..count).map(|_| self.byte()).collect()
+        let mut bytes = Vec::with_capacity(count + 3);
+        while bytes.len() < count {
+            bytes.extend_from_slice(&self.word().to_le_bytes());
+        }
+        bytes.truncate(count);
+        bytes
     }
 
     pub fn words(&mut self, count: usize) -> Vec<u32> {

@@ -5,6 +5,7 @@ use crate::images::{
     op, Image, Operand, Region, Row, FILLED, FRAME, MOST_DATA, MOST_MEMORY, MOST_REGIONS,
     MOST_ROWS, UNDEFINED,
 };
+use crate::large;
 use crate::prng::Prng;
 
 pub type Maker = fn(&mut Prng) -> Image;
@@ -92,7 +93,7 @@ pub fn legal_row(prng: &mut Prng, m: u32, n: u32) -> Row {
 pub fn memory_size(prng: &mut Prng) -> u32 {
     match prng.below(24) {
         0 => prng.between(1, 4),
-        1 => MOST_MEMORY,
+        1 => large::memory_size(prng),
         2 => prng.between(41, MOST_MEMORY),
         _ => prng.between(4, 40),
     }
@@ -229,8 +230,9 @@ pub fn jumps(prng: &mut Prng) -> Image {
 /// Rows of any op.
 pub fn legal(prng: &mut Prng) -> Image {
     let m = memory_size(prng);
-    let n = match prng.below(16) {
-        0 => prng.between(41, MOST_ROWS),
+    let n = match prng.below(32) {
+        0 => large::rows(prng),
+        1 => prng.between(41, MOST_ROWS),
         _ => prng.between(1, 40),
     };
     let rows = (0..n).map(|_| legal_row(prng, m, n)).collect();
@@ -278,10 +280,5 @@ pub fn largest(prng: &mut Prng) -> Image {
     let r = MOST_REGIONS - prng.below(2);
     let rows = (0..n).map(|_| legal_row(prng, m, n)).collect();
     let share = MOST_DATA / MOST_REGIONS - prng.below(2);
-    let mut regions: Vec<Region> =
-        (0..r).map(|k| Region { start: k * share, length: share, kind: FILLED }).collect();
-    if let Some(last) = regions.last_mut() {
-        last.length = m - last.start;
-    }
-    Image::new(m, rows, regions, prng)
+    Image::new(m, rows, large::shares(m, r, share), prng)
 }

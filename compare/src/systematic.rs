@@ -1,6 +1,7 @@
 //! Cases that are counted through, not drawn: every combination of the edges of one rule.
 
 mod images;
+mod large;
 pub mod rules;
 mod runs;
 
@@ -9,7 +10,7 @@ use crate::families::{Choices, Family};
 use crate::images::{op, Image, Operand, Region, Row, FILLED, FRAME, UNDEFINED};
 use crate::prng::Prng;
 
-pub const FAMILIES: [Family<Case>; 21] = [
+pub const FAMILIES: [Family<Case>; 30] = [
     Family { name: "every rule, edge words", make: runs::arithmetic },
     Family { name: "every carry in three bits", make: runs::carry },
     Family { name: "every access, edge address", make: runs::access },
@@ -31,6 +32,15 @@ pub const FAMILIES: [Family<Case>; 21] = [
     Family { name: "every report list length", make: runs::report_lists },
     Family { name: "every output list length", make: runs::output_lists },
     Family { name: "every count at its edges", make: runs::counts },
+    Family { name: "large: every access", make: large::access },
+    Family { name: "large: every way to the end", make: large::program },
+    Family { name: "large: every index", make: large::index },
+    Family { name: "large: every row", make: large::row },
+    Family { name: "large: every region", make: large::region },
+    Family { name: "large: every length", make: large::length },
+    Family { name: "large: every buffer length", make: large::buffers },
+    Family { name: "large: every A above 1", make: large::marks_above_1 },
+    Family { name: "large: every other refusal", make: large::outgrown },
 ];
 
 pub const M: u32 = 16;

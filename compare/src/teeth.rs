@@ -36,7 +36,8 @@ impl Bite {
         let found = (0..cases)
             .find_map(|k| compare::compare([&checker::ENGINE, faulty], plan, k, &mut unused));
         let claim_broken = (0..CLAIM_CASES).find_map(|k| {
-            let failure = claim::try_case(faulty, plan.seed, k, &mut Tally::default()).err()?;
+            let (calls, tally) = (claim::MOST_FAULTY_CALLS, &mut Tally::default());
+            let failure = claim::try_case(faulty, plan.seed, k, calls, tally).err()?;
             Some((k + 1, failure.clause()?))
         });
         let alarms = Found::of(faulty, shares);

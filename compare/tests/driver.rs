@@ -7,8 +7,9 @@ use compare::cases::Call;
 use compare::claim;
 use compare::compare::compare;
 use compare::coverage::Coverage;
+use compare::former;
 use compare::frame::Frame;
-use compare::images::{hex, op, Image, Operand, Region, Row, UNDEFINED};
+use compare::images::{hex, op, set_word, Image, Operand, Region, Row, UNDEFINED};
 use compare::interpreter;
 use compare::plan::Plan;
 use compare::prng::Prng;
@@ -88,6 +89,46 @@ fn register_15_is_kept_unless_its_data_change_or_other_bits_are_undefined() {
     assert!(begun.unkept(Frame { data: 7, v: 1 }).is_some());
 }
 
+/// M, N and D of the example, which is then no image any more, but that of M alone.
+#[test]
+fn sizes_above_the_former_limits_are_told_apart() {
+    let (_, case) = Plan::new(1).case(0);
+    let image = case.desk.image;
+    let with = |at, word| {
+        let mut other = image.clone();
+        set_word(&mut other, at, word);
+        former::is_above(&other)
+    };
+    assert!(!former::is_above(&image) && !former::is_above(&image[..31]));
+    for (at, limit) in [(4, 4096), (8, 512), (24, 4096)] {
+        assert_eq!([with(at, limit), with(at, limit + 1), with(at, u32::MAX)], [false, true, true]);
+    }
+    assert!(!with(16, 33) && !with(12, u32::MAX));
+    let mut other = image.clone();
+    set_word(&mut other, 4, 4097);
+    other[0] ^= 1;
+    assert!(!former::is_above(&other));
+}
+
+/// The interpreter in the checker's place answers as before, and a faulty one does not.
+#[test]
+fn answers_other_than_before_are_told_in_words() {
+    let plan = Plan::new(1);
+    let first = |engine: &Engine| {
+        let mut tally = former::Tally::default();
+        let mut failures = (0..2000).map(|k| former::try_case(engine, &plan, k, &mut tally).err());
+        let found = failures.find_map(|found| found.map(|found| found.difference));
+        (found, tally.cases)
+    };
+    assert_eq!(first(&interpreter::ENGINE), (None, 2000));
+    assert_eq!(first(planted("n_still_512")), (None, 2000));
+    let (found, cases) = first(planted("mov_defined"));
+    let found = found.expect("it is found");
+    assert!(found.contains("'s V: mov_defined 0x0, limits_of_document_01 0x"), "{found}");
+    assert!(cases < 2000);
+    assert_eq!(former::Tally::default().missing().len(), 7);
+}
+
 fn planted(fault: &str) -> &'static Engine {
     faults::planted(fault).expect("a planted fault")
 }
@@ -119,9 +160,10 @@ fn what_both_engines_make_of_register_15_is_told_in_words() {
 /// The words of the first claim case in which the fault, put in the checker's place, fails with such.
 fn claim_failure(fault: &str, words: &str) -> Option<String> {
     let faulty = planted(fault);
-    let failures =
-        (0..2000).filter_map(|k| claim::try_case(faulty, 1, k, &mut Default::default()).err());
-    failures.map(|failure| failure.to_string()).find(|failure| failure.contains(words))
+    let (calls, tally) = (claim::MOST_FAULTY_CALLS, &mut claim::Tally::default());
+    let failures = (0..2000).filter_map(|k| claim::try_case(faulty, 1, k, calls, tally).err());
+    let mut failures = failures.map(|failure| failure.to_string());
+    failures.find(|failure| failure.contains(words))
 }
 
 #[test]
@@ -143,16 +185,21 @@ fn register_15_that_is_not_kept_breaks_the_claim() {
 }
 
 #[test]
-fn claims_that_leave_register_15_out_are_empty() {
+fn claims_that_leave_something_out_are_empty() {
     let mut tally = claim::Tally::with_needs();
     for k in 0..200 {
-        assert!(claim::try_case(&interpreter::ENGINE, 1, k, &mut tally).is_ok());
+        let calls = claim::MOST_CALLS;
+        assert!(claim::try_case(&interpreter::ENGINE, 1, k, calls, &mut tally).is_ok());
     }
     assert_eq!((tally.programs, tally.refused_images), (200, 200));
     assert!(!tally.is_empty());
     tally.refused_images -= 1;
     assert!(tally.is_empty());
     tally.refused_images += 1;
+    assert!(!tally.is_empty());
+    tally.large = 0;
+    assert!(tally.is_empty());
+    tally.large = 1;
     tally.frames_reported = 0;
     assert!(tally.is_empty());
 }
@@ -170,6 +217,10 @@ fn ops_and_sorts_that_were_never_met_are_missed() {
         "register 14 as d, drawn: LD8",
         "register 15, counted: stored by ST16",
         "register 15, drawn: B of a sum",
+        "sizes, reading, drawn: N 2,049 refused with 3",
+        "sizes, running, counted: 7 where 3 was due",
+        "large images, drawn: step at row 2,047",
+        "large images, counted: load across 4,096",
     ] {
         assert!(missing.contains(&what.to_string()), "{what}");
     }

@@ -71,7 +71,7 @@ fn only_damaged_fields_are_refused() {
         let name = Cases::kinds()[kind];
         let (parts, room) = (case.parts(), case.room());
         let written = case.written_by(&WRITER).expect("an answer");
-        if name == "legal fields" || name == "largest image" {
+        if ["legal fields", "largest image", "large fields"].contains(&name) {
             let number_due = if room < parts.length() { 12 } else { 0 };
             assert_eq!(written.number, number_due, "case {number}, {name}");
         } else if name.contains("sizes") || name.contains("register 15") {
@@ -96,7 +96,7 @@ fn first_failure(trip: &Trip, other: &Writer) -> Option<String> {
 fn a_difference_is_told_in_words() {
     for (fault, words) in [
         ("write_d_in_place_of_r", "  buffer byte 16: checker 0x2, write_d_in_place_of_r 0x8"),
-        ("write_5_index_from_one", "  refusal index: checker 0, write_5_index_from_one 1"),
+        ("write_5_index_from_one", "  refusal index: checker 1, write_5_index_from_one 2"),
         ("write_size_in_words", "  size: checker 88, write_size_in_words 22"),
         ("write_12_when_exact", "  refusal number: checker 0, write_12_when_exact 12"),
     ] {
@@ -191,14 +191,15 @@ fn a_round_trip_that_breaks_is_told_in_words() {
 #[test]
 fn a_reader_that_is_wrong_breaks_the_round_trip() {
     for (fault, words) in [
-        ("refusal_4_longer_image", "round trip, longer buffer: (0, 0), not (4, 0)"),
-        ("refusal_3_m_top", "round trip, refused alike: (12, 0), not (3, 0)"),
-        ("refusal_6_index_nought", "round trip, refused alike: (6, 1), not (6, 0)"),
+        ("refusal_4_longer_image", "longer buffer: (0, 0), not (4, 0)"),
+        ("refusal_3_m_top", "), not (3, 0)"),
+        ("refusal_6_index_nought", "refused alike: (6, 1), not (6, 0)"),
     ] {
         let reader = planted_reader(fault);
         let failure = first_failure(&Trip { readers: [reader; 2], ..CHECKER }, &WRITER);
         let failure = failure.expect(fault);
-        assert!(failure.contains(words), "{fault}: {failure}");
+        let found = failure.lines().last().unwrap_or_default();
+        assert!(found.starts_with("  round trip, ") && found.ends_with(words), "{fault}: {found}");
     }
     let reader = planted_reader("refusal_5_index_from_one");
     let trip = Trip { readers: [CHECKER.readers[0], reader], ..CHECKER };
@@ -206,7 +207,7 @@ fn a_reader_that_is_wrong_breaks_the_round_trip() {
     assert!(failure.contains("round trip, read alike: Header { number: 5, "), "{failure}");
 }
 
-/// Each image of the examples, and the longest one.
+/// Each image of the examples, and the longest one, now and before document 02's request L5.
 #[test]
 fn the_examples_are_written_again() {
     let folder = fs::read_dir("../examples").expect("the examples");
@@ -214,7 +215,8 @@ fn the_examples_are_written_again() {
     let mut images: Vec<_> =
         paths.filter(|path| path.extension().is_some_and(|end| end == "image")).collect();
     assert!(images.len() >= 6);
-    images.push("../tests/longest.image".into());
+    images
+        .extend(["longest", "longest_before"].map(|name| format!("../tests/{name}.image").into()));
     for path in images {
         let image = fs::read(&path).expect("an image");
         assert!(CHECKER.rewrite(&image).is_ok_and(|came| came == Rewritten::Same), "{path:?}");
@@ -255,6 +257,9 @@ fn sorts_that_were_never_met_are_missed() {
         "writing, refused, drawn: 12 by one byte",
         "writing, refused in number order, counted: 7 before 12",
         "writing, accepted, drawn: the largest image",
+        "writing, accepted, counted: N above 512",
+        "writing, refused, drawn: 3, D 8,193",
+        "writing, refused, counted: 12 where 3 was due",
         "writing, ops written, drawn: ST16",
         "writing, register 15 as d refused, counted: LDS16",
         "writing, register 15 as d written, drawn: ST8",
@@ -264,7 +269,7 @@ fn sorts_that_were_never_met_are_missed() {
     ] {
         assert!(missing.contains(&what.to_string()), "{what}");
     }
-    assert_eq!(missing.len(), 2 * (9 + 14 + 10 + 12 + 25 + 17 + 3) + 4 + 7);
+    assert_eq!(missing.len(), 2 * (9 + 23 + 10 + 15 + 25 + 17 + 3) + 4 + 7);
 }
 
 #[test]

@@ -12,7 +12,9 @@ use compare::checker;
 use compare::images::op::{
     ADD, AND, EQ, LD32, LD8, LTU, MUL, OR, SAR, SHL, SHR, ST32, ST8, SUB, XOR,
 };
-use compare::images::{Image, Operand, Region, Row, FILLED, FRAME, MOST_ROWS, UNDEFINED};
+use compare::images::{
+    Image, Operand, Region, Row, FILLED, FORMER_ROWS, FRAME, MOST_ROWS, UNDEFINED,
+};
 use compare::interpreter;
 use compare::prng::Prng;
 use compare::types::{Buffers, Engine, Lists, Ran};
@@ -24,6 +26,7 @@ const OUTPUT_WORDS: usize = 512;
 const ROUNDS: usize = 61;
 const STOPPED: u32 = 1;
 const ENGINES: [Engine; 2] = [checker::ENGINE, interpreter::ENGINE];
+/// On the longest image; on shorter ones the first, by which it is seen what reading them takes.
 const SHORT_BUDGETS: [u32; 4] = [1, 1_000, 3_000, 10_000];
 /// Calls that are timed together where one is too short for the clock.
 const SHORT_CALLS: usize = 200;
@@ -202,14 +205,15 @@ fn measure(name: &str, image: &Image, rounds: usize) -> Result<(), String> {
     Ok(())
 }
 
-/// Calls of so many steps on the arithmetic image, made as long as an image can be.
-fn measure_short(rounds: usize) {
+/// Calls with these budgets on the arithmetic image, made so many instructions long, if that is longer.
+fn measure_short(rounds: usize, instructions: u32, budgets: &[u32]) {
     let mut image = arithmetic();
-    image.rows.resize(MOST_ROWS as usize, Row::stop());
+    let length = image.rows.len().max(instructions as usize);
+    image.rows.resize(length, Row::stop());
     let bytes = image.bytes();
-    println!("a call on an image of {MOST_ROWS} instructions, nanoseconds");
+    println!("a call on an image of {length} instructions, nanoseconds");
     println!("budget   checker  interpreter  of interpreter");
-    for budget in SHORT_BUDGETS {
+    for &budget in budgets {
         let mut times = [Vec::new(), Vec::new()];
         for _ in 0..rounds {
             for (engine, times) in ENGINES.iter().zip(&mut times) {
@@ -234,6 +238,9 @@ fn main() -> ExitCode {
             return ExitCode::FAILURE;
         }
     }
-    measure_short(rounds);
+    measure_short(rounds, MOST_ROWS, &SHORT_BUDGETS);
+    for instructions in [FORMER_ROWS, 0] {
+        measure_short(rounds, instructions, &SHORT_BUDGETS[..1]);
+    }
     ExitCode::SUCCESS
 }

@@ -24,6 +24,8 @@ pub struct Tally {
     pub looks: u64,
     /// Looks at which undefined bits differ between the two machines.
     pub differing: u64,
+    /// Looks at rows and with memory that only large images have.
+    pub large: u64,
     clean: [u64; STEP_MARKS.len()],
     stopped_by_report: [u64; STEP_MARKS.len()],
     /// Runs that were refused.
@@ -48,6 +50,7 @@ impl Tally {
         self.programs += other.programs;
         self.looks += other.looks;
         self.differing += other.differing;
+        self.large += other.large;
         self.refused += other.refused;
         self.outputs += other.outputs;
         self.frames_reported += other.frames_reported;
@@ -77,14 +80,14 @@ impl Tally {
     }
 
     /// Is too little behind the claim: programs clean for dozens of steps, and by each needed rule,
-    /// undefined bits that differ, refused runs, outputs; register 15 after a report, and every program
-    /// refused for it?
+    /// undefined bits that differ, large images, refused runs, outputs; register 15 after a report, and every
+    /// program refused for it?
     pub fn is_empty(&self) -> bool {
         let dozens: u64 = self.clean[3..].iter().sum();
         let few_programs = |&programs: &u64| 8 * programs < self.programs;
         let needing = self.needing.unwrap_or_default();
         let few = few_programs(&dozens) || needing.iter().any(few_programs);
-        let few = few || 2 * self.differing < self.looks;
+        let few = few || 2 * self.differing < self.looks || self.large == 0;
         let few = few || self.frames_reported == 0 || self.refused_images < self.programs;
         few || self.programs == 0 || self.refused == 0 || self.outputs == 0
     }
@@ -102,7 +105,8 @@ impl Tally {
         format!(
             "programs that ran clean, by steps: {}\n\
              programs stopped by a report, by clean steps before it: {}\n\
-             looks at both machines: {}, of them {} with undefined bits that differ\n\
+             looks at both machines: {}, of them {} with undefined bits that differ, {} above row 511 with \
+             more than 4,096 bytes\n\
              refused runs among them: {}; outputs of clean programs: {}\n\
              looks at register 15 after a report: {}; programs refused for it as d of a row: {}\n\
              clean programs that another rule would report or change, {}\n",
@@ -110,6 +114,7 @@ impl Tally {
             by_steps(&self.stopped_by_report),
             self.looks,
             self.differing,
+            self.large,
             self.refused,
             self.outputs,
             self.frames_reported,

@@ -9,6 +9,7 @@ use crate::cases::Desk;
 use crate::images::op;
 use crate::types::State;
 
+pub use accesses::Access;
 pub use sums::is_settled;
 
 /// A step that a run took alone: its row, the state before it and all that it left.

@@ -4,7 +4,7 @@ use super::{begun, begun_from_bytes, rules, small_image, three_rows, Choices, M}
 use crate::cases::{self, Budget, Call, Case, Desk};
 use crate::damage::header_edges;
 use crate::edges;
-use crate::images::{op, set_word, Image, FRAME, HEADER_BYTES, MOST_MEMORY};
+use crate::images::{op, set_word, Image, FRAME, HEADER_BYTES, MOST_MEMORY, MOST_ROWS};
 use crate::prng::Prng;
 
 pub fn op_number(choices: &mut Choices, prng: &mut Prng) -> Case {
@@ -19,7 +19,7 @@ pub fn row_fields(choices: &mut Choices, prng: &mut Prng) -> Case {
 
 pub fn sizes(choices: &mut Choices, prng: &mut Prng) -> Case {
     let image = rules::sizes(choices, prng);
-    begun(prng, &image, &[1, 600])
+    begun(prng, &image, &[1, MOST_ROWS])
 }
 
 pub fn region(choices: &mut Choices, prng: &mut Prng) -> Case {
@@ -62,9 +62,9 @@ pub fn image_byte(choices: &mut Choices, prng: &mut Prng) -> Case {
 /// Causes of refusals, from a part of the image to the state: see the three functions below.
 const CAUSES: usize = 19;
 /// The first cause that is none of the image's.
-const CAUSES_OF_DESK: usize = 13;
+pub const CAUSES_OF_DESK: usize = 13;
 
-fn spoil_part(image: &mut Image, cause: usize) {
+pub fn spoil_part(image: &mut Image, cause: usize) {
     match cause {
         0 => image.m = MOST_MEMORY + 1,
         1 => image.rows[0].op = op::COUNT as u8,
@@ -80,7 +80,7 @@ fn spoil_part(image: &mut Image, cause: usize) {
     }
 }
 
-fn spoil_bytes(bytes: &mut Vec<u8>, cause: usize) {
+pub fn spoil_bytes(bytes: &mut Vec<u8>, cause: usize) {
     match cause {
         7 => bytes.truncate(HEADER_BYTES - 1),
         8 => bytes[0] ^= 1,

@@ -3,10 +3,13 @@
 use super::{begun, rules, small_image, three_rows, Choices, M};
 use crate::cases::{self, Budget, Call, Case};
 use crate::edges;
-use crate::images::{op, Image, Operand, Row, FRAME, MOST_MEMORY, MOST_ROWS};
+use crate::images::{op, Image, Operand, Row, FORMER_ROWS, FRAME, MOST_ROWS};
 use crate::prng::Prng;
 use crate::programs::{ACCESSES, ARITHMETIC, STORES};
 use crate::types::State;
+
+/// Bytes of a memory whose addresses take more than 8 bits.
+const WIDER: u32 = 260;
 
 /// One step from a state with these registers and V words; the others hold anything.
 fn one_step(prng: &mut Prng, rows: Vec<Row>, known: &[(u8, u32, u32)]) -> Case {
@@ -14,7 +17,7 @@ fn one_step(prng: &mut Prng, rows: Vec<Row>, known: &[(u8, u32, u32)]) -> Case {
     one_step_of(prng, &image, known)
 }
 
-fn one_step_of(prng: &mut Prng, image: &Image, known: &[(u8, u32, u32)]) -> Case {
+pub fn one_step_of(prng: &mut Prng, image: &Image, known: &[(u8, u32, u32)]) -> Case {
     let mut desk = cases::desk(prng, image.bytes(), image.m);
     desk.state = State { regs: cases::registers(prng, image.m), ..State::default() };
     desk.state.vregs = std::array::from_fn(|_| edges::shadow(prng));
@@ -52,12 +55,24 @@ pub fn carry(choices: &mut Choices, prng: &mut Prng) -> Case {
 }
 
 pub fn access(choices: &mut Choices, prng: &mut Prng) -> Case {
-    let m = choices.pick(&[M, MOST_MEMORY]);
-    let op = choices.pick(&ACCESSES);
+    let m = choices.pick(&[M, WIDER]);
     let address = choices.pick(&[&edges::addresses(m)[..], &[255, 256]].concat());
     let base = choices.pick(&[0, address, 0xFFFF_FFFE]);
     let v = choices.pick(&[0, 1, 0x8000_0000, 0xFFFF_FFFF]);
     let d = choices.pick(&[1, 2]);
+    access_of(choices, prng, m, [base, address], d, v)
+}
+
+/// A load or store by each op at an address, by way of register 1, with some of its bytes unaddressable.
+pub fn access_of(
+    choices: &mut Choices,
+    prng: &mut Prng,
+    m: u32,
+    [base, address]: [u32; 2],
+    d: u8,
+    v: u32,
+) -> Case {
+    let op = choices.pick(&ACCESSES);
     let unaddressable = choices.pick(&[0u32, 0b1111, 0b0001, 0b1000, 0b0110]);
     let row = Row::access(op, d, 1, address.wrapping_sub(base));
     let image = Image { m, ..small_image(prng, vec![row]) };
@@ -104,8 +119,9 @@ pub fn width(choices: &mut Choices, prng: &mut Prng) -> Case {
 }
 
 pub fn jump(choices: &mut Choices, prng: &mut Prng) -> Case {
-    let n = choices.pick(&[4, MOST_ROWS]);
-    let places = [0, n / 2 - 1, n / 2, n - 2, n - 1, n];
+    let n = choices.pick(&[4, FORMER_ROWS + 1, MOST_ROWS]);
+    let former = FORMER_ROWS.min(n - 1);
+    let places = [0, n / 2 - 1, n / 2, former - 1, former, n - 2, n - 1, n];
     let from = choices.pick(&places[..places.len() - 1]);
     let to = choices.pick(&places);
     let x = choices.pick(&[0, 1, 0x100, 0x8000_0000]);
@@ -155,12 +171,17 @@ pub fn frame_used(choices: &mut Choices, prng: &mut Prng) -> Case {
     one_step(prng, vec![row, Row::stop()], &known)
 }
 
-/// Buffers that do not fit the beginning, or the run after a beginning that they do fit.
 pub fn buffers(choices: &mut Choices, prng: &mut Prng) -> Case {
     let image = small_image(prng, three_rows());
-    let mut case = begun(prng, &image, &[5]);
+    buffers_of(choices, prng, &image, &[M, 0, M - 1, M + 1, 2 * M])
+}
+
+/// Buffers of each of these lengths, some of which do not fit the beginning, or the run after a beginning
+/// that they do fit.
+pub fn buffers_of(choices: &mut Choices, prng: &mut Prng, image: &Image, lengths: &[u32]) -> Case {
+    let mut case = begun(prng, image, &[5]);
     for of in [0, 1, 2] {
-        let length = choices.pick(&[M, 0, M - 1, M + 1, 2 * M]) as usize;
+        let length = choices.pick(lengths) as usize;
         let desk = &mut case.desk;
         [&mut desk.mem, &mut desk.v, &mut desk.a][of].resize(length, 1);
     }

@@ -12,11 +12,11 @@ use crate::types::Header;
 /// The causes of refusal 3.
 pub const LIMITS: [&str; 9] = [
     "M 0",
-    "M above 4,096",
+    "M above 8,192",
     "no instruction",
-    "N above 512",
+    "N above 2,048",
     "R above 32",
-    "D above 4,096",
+    "D above 8,192",
     "part of an instruction",
     "a word of a region",
     "two words of a region",

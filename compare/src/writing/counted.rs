@@ -2,16 +2,17 @@
 
 use super::case::Case;
 use super::spoiled::{lengthen, set_byte, FAR_DATA, FAR_REGIONS, FAR_ROWS, SPOILS};
+use crate::edges;
 use crate::families::{Choices, Family};
 use crate::images::{
-    op, Image, Operand, Region, Row, FILLED, FRAME, MOST_DATA, MOST_MEMORY, MOST_REGIONS,
-    MOST_ROWS, UNDEFINED,
+    op, Operand, Region, Row, FILLED, FORMER_DATA, FORMER_MEMORY, FORMER_ROWS, FRAME, MOST_DATA,
+    MOST_MEMORY, MOST_REGIONS, MOST_ROWS, UNDEFINED,
 };
 use crate::parts::{Parts, REGION_WORDS, ROW_WORDS};
 use crate::prng::Prng;
 use crate::systematic::{rules, small_image, three_rows, M};
 
-pub const FAMILIES: [Family<Case>; 15] = [
+pub const FAMILIES: [Family<Case>; 18] = [
     Family { name: "every op number", make: op_number },
     Family { name: "every row, edge fields", make: row_fields },
     Family { name: "every op with d 15 or 14", make: frame_named },
@@ -27,6 +28,9 @@ pub const FAMILIES: [Family<Case>; 15] = [
     Family { name: "every three refusals", make: three_refusals },
     Family { name: "every buffer length", make: buffer_length },
     Family { name: "a buffer to each part", make: buffer_to_part },
+    Family { name: "large: every row", make: large_row },
+    Family { name: "large: every region", make: large_region },
+    Family { name: "large: every other refusal", make: outgrown },
 ];
 
 /// How much longer a buffer is than the image: exactly as long, a byte short, a byte longer, empty.
@@ -52,10 +56,12 @@ fn frame_named(choices: &mut Choices, prng: &mut Prng) -> Case {
 
 /// Where a jump may go: below N, which is the number of entries and not of words.
 fn jump(choices: &mut Choices, prng: &mut Prng) -> Case {
-    let n = choices.pick(&[1, 2, 3, 256, MOST_ROWS - 1, MOST_ROWS]);
+    let former = FORMER_ROWS;
+    let n = choices.pick(&[1, 2, 3, 256, former, former + 1, MOST_ROWS - 1, MOST_ROWS]);
     let place = choices.pick(&[0, n / 2, n - 1]);
     let beside = [0, n / 2, n.saturating_sub(2), n - 1, n, n + 1, 2 * n - 1, 2 * n, 8 * n];
-    let to = choices.pick(&[&beside[..], &[MOST_ROWS, 0x1_0000, u32::MAX]].concat());
+    let far = [former - 1, former, MOST_ROWS, 0x1_0000, u32::MAX];
+    let to = choices.pick(&[&beside[..], &far].concat());
     let mut rows = vec![Row::stop(); n as usize];
     rows[place as usize] = Row::jump(FRAME, to);
     let image = small_image(prng, rows);
@@ -67,22 +73,23 @@ fn range(choices: &mut Choices, prng: &mut Prng) -> Case {
     Case::beside(image.parts(), choices.pick(&EXACT_OR_SHORT), prng)
 }
 
-/// M beside the regions' end, beside its limits, and where fewer of its bits would do.
+/// M beside the regions' end, beside its limits and what the upper one was before, and where fewer of its bits would do.
 fn memory(choices: &mut Choices, prng: &mut Prng) -> Case {
     let mut parts = rules::shaped(choices, prng).parts();
     let most = MOST_MEMORY;
-    let ends = [0, 1, 7, 8, 11, 12, 13, M, most - 1, most, most + 1];
+    let ends = [&edges::counts(FORMER_MEMORY, most)[..], &[7, 8, 11, 12, 13, M]].concat();
     let wide = [2 * most, 0x1_0000, 0x1_0000 | M, 0x8000_0000, 0x8000_0000 | M, u32::MAX];
     parts.m = choices.pick(&[&ends[..], &wide].concat());
     Case::beside(parts, choices.pick(&ROOMS), prng)
 }
 
-/// All sizes at and beside their limits, with parts of entries.
+/// All sizes at and beside their limits, with a part of an entry or none.
 fn sizes(choices: &mut Choices, prng: &mut Prng) -> Case {
     let mut parts = rules::sizes(choices, prng).parts();
-    let more = choices.pick(&ROOMS);
-    parts.instructions.extend(prng.words(choices.below(ROW_WORDS)));
-    parts.regions.extend(prng.words(choices.below(REGION_WORDS)));
+    let (rows, regions, more) =
+        choices.pick(&[(0, 0, 0), (0, 0, -1), (1, 0, 0), (0, 1, 0), (0, 2, 0), (1, 2, -1)]);
+    parts.instructions.extend(prng.words(rows));
+    parts.regions.extend(prng.words(regions));
     Case::beside(parts, more, prng)
 }
 
@@ -100,9 +107,10 @@ fn filled_bytes(words: usize) -> usize {
 
 /// Every number of words in both lists, few and about the most, with data that fit, lack or are too many.
 fn list_lengths(choices: &mut Choices, prng: &mut Prng) -> Case {
-    let most_rows = ROW_WORDS * MOST_ROWS as usize;
+    let about =
+        |n: u32| [-1, 0, 1, 2].map(|more| (ROW_WORDS * n as usize).saturating_add_signed(more));
     let most_regions = REGION_WORDS * MOST_REGIONS as usize;
-    let rows = [0, 1, 2, 3, 4, 5, most_rows - 1, most_rows, most_rows + 1, most_rows + 2];
+    let rows = [&[0, 1, 2, 3, 4, 5], &about(FORMER_ROWS)[..], &about(MOST_ROWS)].concat();
     let rows = choices.pick(&rows);
     let few = [0, 1, 2, 3, 4, 5, 6, 7, 8, 9];
     let many = [-3, -2, -1, 0, 1, 2, 3].map(|more| most_regions.saturating_add_signed(more));
@@ -120,7 +128,7 @@ fn list_lengths(choices: &mut Choices, prng: &mut Prng) -> Case {
 
 /// Lists so much longer than they may be that the low bits of their length are as they should be.
 fn far_lists(choices: &mut Choices, prng: &mut Prng) -> Case {
-    let mut parts = small_image(prng, three_rows()).parts();
+    let mut parts = rules::shaped(choices, prng).parts();
     let [rows, regions] = [choices.pick(&FAR_ROWS), choices.pick(&FAR_REGIONS)];
     lengthen(&mut parts, rows, regions, choices.pick(&FAR_DATA));
     Case::beside(parts, choices.pick(&EXACT_OR_SHORT), prng)
@@ -132,18 +140,18 @@ fn region(choices: &mut Choices, prng: &mut Prng) -> Case {
 }
 
 /// Each place of the longest program: a row that is none, one whose result goes to register 15, or a jump
-/// past the end; alone, or with the last row at fault, too.
+/// past the end; the first with the last row at fault, too.
 fn instruction_at_fault(choices: &mut Choices, prng: &mut Prng) -> Case {
     let place = choices.below(MOST_ROWS as usize);
-    let row = choices.pick(&[
-        Row { op: op::COUNT as u8, ..Row::stop() },
-        Row::copy(FRAME, Operand::Register(1)),
-        Row::jump(1, MOST_ROWS),
+    let (row, is_alone) = choices.pick(&[
+        (Row { op: op::COUNT as u8, ..Row::stop() }, false),
+        (Row::copy(FRAME, Operand::Register(1)), true),
+        (Row::jump(1, MOST_ROWS), true),
     ]);
     let mut rows = vec![Row::jump(1, MOST_ROWS - 1); MOST_ROWS as usize];
     rows[place] = row;
     let mut parts = small_image(prng, rows).parts();
-    if choices.below(2) == 1 {
+    if !is_alone {
         set_byte(&mut parts.instructions, MOST_ROWS as usize - 1, 3, 1);
     }
     Case::beside(parts, 0, prng)
@@ -188,35 +196,40 @@ fn buffer_length(choices: &mut Choices, prng: &mut Prng) -> Case {
     Case::new(parts, choices.below(longest + 12), prng)
 }
 
-/// The image with this many rows, regions and bytes of data, which fill the first regions.
-fn of_sizes(n: u32, r: u32, d: u32, prng: &mut Prng) -> Parts {
-    let rows = vec![Row::access(op::ST32, FRAME, FRAME, n); n as usize];
-    let share = MOST_DATA / MOST_REGIONS;
-    let region = |k| Region { start: share * k, length: share, kind: UNDEFINED };
-    let mut regions: Vec<Region> = (0..r).map(region).collect();
-    for region in &mut regions {
-        if region.start < d {
-            *region = Region { kind: FILLED, length: share.min(d - region.start), ..*region };
-        }
-    }
-    Image::new(MOST_MEMORY, rows, regions, prng).parts()
-}
-
 /// Buffers that end about the end of each part of small, large and the largest images, or far behind.
 fn buffer_to_part(choices: &mut Choices, prng: &mut Prng) -> Case {
-    let n = choices.pick(&[1, 2, MOST_ROWS - 1, MOST_ROWS]);
+    let n = choices.pick(&[1, 2, FORMER_ROWS, FORMER_ROWS + 1, MOST_ROWS - 1, MOST_ROWS]);
     let (r, d) = choices.pick(&[
         (0, 0),
         (1, 0),
         (1, 1),
         (2, 200),
         (MOST_REGIONS, 0),
+        (MOST_REGIONS, FORMER_DATA),
+        (MOST_REGIONS, FORMER_DATA + 1),
         (MOST_REGIONS, MOST_DATA - 1),
         (MOST_REGIONS, MOST_DATA),
     ]);
-    let parts = of_sizes(n, r, d, prng);
+    let parts = rules::of_sizes(n, r, d, prng).parts();
     let near = [-5, -4, -3, -2, -1, 0, 1, 2, 3, 4, 5, 64, 5000];
     let end = choices.pick(&[&[0], &parts.ends()[..]].concat());
     let room = end.saturating_add_signed(choices.pick(&near));
     Case::new(parts, room, prng)
+}
+
+fn large_row(choices: &mut Choices, prng: &mut Prng) -> Case {
+    let image = rules::long(choices, prng);
+    Case::beside(image.parts(), choices.pick(&EXACT_OR_SHORT), prng)
+}
+
+fn large_region(choices: &mut Choices, prng: &mut Prng) -> Case {
+    let image = rules::large_region(choices, prng);
+    Case::beside(image.parts(), choices.pick(&EXACT_OR_SHORT), prng)
+}
+
+/// Sizes that were refused with 3 before, with one of each cause besides.
+fn outgrown(choices: &mut Choices, prng: &mut Prng) -> Case {
+    let mut parts = rules::outgrown(choices, prng).parts();
+    choices.pick(&SPOILS)(&mut parts);
+    Case::beside(parts, choices.pick(&EXACT_OR_SHORT), prng)
 }

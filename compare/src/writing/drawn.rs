@@ -5,6 +5,7 @@ use super::spoiled::{lengthen, FAR_DATA, FAR_REGIONS, FAR_ROWS};
 use crate::damage;
 use crate::edges;
 use crate::images::{Region, FILLED, MOST_DATA, MOST_MEMORY, MOST_REGIONS, MOST_ROWS, UNDEFINED};
+use crate::large;
 use crate::numbering::Kind;
 use crate::parts::Parts;
 use crate::prng::Prng;
@@ -22,10 +23,13 @@ const LEGAL: [Maker; 9] = [
     programs::loops,
 ];
 
-pub const KINDS: [Kind<Case>; 10] = [
+pub const KINDS: [Kind<Case>; 13] = [
     Kind { name: "legal fields", share: 34, make: |p| of_parts(p, legal) },
     Kind { name: "largest image", share: 2, make: |p| of_parts(p, largest) },
     Kind { name: "largest image damaged", share: 2, make: |p| of_parts(p, largest_damaged) },
+    Kind { name: "large fields", share: 3, make: |p| of_parts(p, large) },
+    Kind { name: "large fields damaged", share: 3, make: |p| of_parts(p, large_damaged) },
+    Kind { name: "fields outgrown", share: 3, make: |p| of_parts(p, outgrown) },
     Kind { name: "one part damaged", share: 14, make: |p| of_parts(p, one_damaged) },
     Kind { name: "two or three damaged", share: 14, make: |p| of_parts(p, damaged) },
     Kind { name: "d damaged to register 15", share: 8, make: |p| of_parts(p, frame_named) },
@@ -46,6 +50,23 @@ fn largest(prng: &mut Prng) -> Parts {
 fn largest_damaged(prng: &mut Prng) -> Parts {
     let mut image = programs::largest(prng);
     damage::damage_parts(prng, &mut image);
+    image.parts()
+}
+
+fn large(prng: &mut Prng) -> Parts {
+    large::image(prng).parts()
+}
+
+fn large_damaged(prng: &mut Prng) -> Parts {
+    let mut image = large::image(prng);
+    damage::damage_parts(prng, &mut image);
+    image.parts()
+}
+
+/// One size above its limit, or above what that was before.
+fn outgrown(prng: &mut Prng) -> Parts {
+    let mut image = damage::damaged_parts(prng, 0);
+    large::outgrow(prng, &mut image);
     image.parts()
 }
 

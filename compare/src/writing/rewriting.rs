@@ -4,11 +4,8 @@ use std::fmt;
 
 use super::round_trip::{Broken, Rewritten, Trip};
 use crate::coverage::pairs;
-use crate::images::hex;
+use crate::images::{hex, MOST_BYTES};
 use crate::plan::Plan;
-
-/// The bytes of the largest image.
-const MOST_BYTES: usize = 8_608;
 
 /// What came of the images.
 const COLUMNS: [&str; 7] = [

@@ -5,11 +5,15 @@ use std::cmp::Ordering;
 use super::case::Case;
 use super::causes::{header, row, Causes, LIMITS};
 use crate::coverage::{add, Counts, MET_IN};
-use crate::images::{op, FRAME, MOST_DATA, MOST_MEMORY, MOST_REGIONS, MOST_ROWS};
+use crate::former;
+use crate::images::{
+    op, FORMER_DATA, FORMER_MEMORY, FORMER_ROWS, FRAME, MOST_DATA, MOST_MEMORY, MOST_REGIONS,
+    MOST_ROWS,
+};
 use crate::interpreter::instruction_allowed;
 use crate::parts::{Parts, ROW_WORDS};
 use crate::programs::STORES;
-use crate::types::Written;
+use crate::types::{Header, Written};
 
 /// What a sort looks at: what was lent, what is wrong with it, and what came of it.
 pub struct Met<'a> {
@@ -43,12 +47,29 @@ impl Met<'_> {
     fn has(&self, size: usize, count: u32) -> bool {
         self.is(0) && self.parts.sizes()[size] == count as usize
     }
+
+    fn has_above(&self, size: usize, count: u32) -> bool {
+        self.is(0) && self.parts.sizes()[size] > count as usize
+    }
+
+    /// Refused for this one of the limits alone, by one.
+    fn is_one_above(&self, limit: &str, count: usize, most: u32) -> bool {
+        let limit = LIMITS.iter().position(|&name| name == limit);
+        let is_alone = limit.is_some_and(|limit| self.causes.is_alone(limit));
+        self.is(3) && is_alone && count == most as usize + 1
+    }
+
+    /// Refused with this number, where 3 was due before document 02's request L5.
+    fn is_otherwise(&self, number: u32) -> bool {
+        let Header { m, n, d, .. } = header(self.parts);
+        self.is(number) && former::are_above(m, n, d)
+    }
 }
 
 /// A name, and whether a case is so.
 type Sort = (&'static str, fn(&Met) -> bool);
 
-const REFUSED: [Sort; 14] = [
+const REFUSED: [Sort; 23] = [
     ("5 at 0", |met| met.is(5) && met.written.index == 0),
     ("5 above 0", |met| met.is(5) && met.written.index > 0),
     ("5, several at fault", |met| met.is(5) && met.causes.instructions.len() > 1),
@@ -63,20 +84,32 @@ const REFUSED: [Sort; 14] = [
     ("12 in the instructions", |met| met.is_short_in(1)),
     ("12 in the regions", |met| met.is_short_in(2)),
     ("12 in the data", |met| met.is_short_in(3)),
+    ("3, M 8,193", |met| met.is_one_above("M above 8,192", met.parts.m as usize, MOST_MEMORY)),
+    ("3, N 2,049", |met| met.is_one_above("N above 2,048", met.parts.sizes()[0], MOST_ROWS)),
+    ("3, D 8,193", |met| met.is_one_above("D above 8,192", met.parts.sizes()[2], MOST_DATA)),
+    ("5 above 511", |met| met.is(5) && met.written.index >= FORMER_ROWS as usize),
+    ("5 at 2,047", |met| met.is(5) && met.written.index == MOST_ROWS as usize - 1),
+    ("5 where 3 was due", |met| met.is_otherwise(5)),
+    ("6 where 3 was due", |met| met.is_otherwise(6)),
+    ("7 where 3 was due", |met| met.is_otherwise(7)),
+    ("12 where 3 was due", |met| met.is_otherwise(12)),
 ];
 
-const ACCEPTED: [Sort; 12] = [
+const ACCEPTED: [Sort; 15] = [
     ("room exact", |met| met.is_spare(0)),
     ("a byte to spare", |met| met.is_spare(1)),
     ("more to spare", |met| met.is(0) && met.case.room() > met.written.size + 1),
     ("M 1", |met| met.is(0) && met.parts.m == 1),
-    ("M 4,096", |met| met.is(0) && met.parts.m == MOST_MEMORY),
+    ("M above 4,096", |met| met.is(0) && met.parts.m > FORMER_MEMORY),
+    ("M 8,192", |met| met.is(0) && met.parts.m == MOST_MEMORY),
     ("N 1", |met| met.has(0, 1)),
-    ("N 512", |met| met.has(0, MOST_ROWS)),
+    ("N above 512", |met| met.has_above(0, FORMER_ROWS)),
+    ("N 2,048", |met| met.has(0, MOST_ROWS)),
     ("R 0", |met| met.has(1, 0)),
     ("R 32", |met| met.has(1, MOST_REGIONS)),
     ("D 0", |met| met.has(2, 0)),
-    ("D 4,096", |met| met.has(2, MOST_DATA)),
+    ("D above 4,096", |met| met.has_above(2, FORMER_DATA)),
+    ("D 8,192", |met| met.has(2, MOST_DATA)),
     ("the largest image", |met| met.is_largest()),
 ];
 

@@ -50,9 +50,11 @@ fn the_first_and_a_later_index_are_named() {
         assert_eq!(of_three([instruction, STOP, STOP]), (5, 0));
         assert_eq!(of_three([STOP, STOP, instruction]), (5, 2));
     }
-    let mut longest = [STOP; 512];
-    longest[511] = mov;
-    assert_eq!(answer(&image(1, &longest, &[], &[])), (5, 511));
+    let mut longest = [STOP; 2048];
+    longest[2047] = mov;
+    assert_eq!(answer(&image(1, &longest, &[], &[])), (5, 2047));
+    longest[512] = lds16;
+    assert_eq!(answer(&image(1, &longest, &[], &[])), (5, 512));
 }
 
 /// The register would keep its value, but the instruction names it all the same.
@@ -137,7 +139,7 @@ fn the_refusal_has_its_place_in_the_order() {
     let mut other = bad.clone();
     other[3] ^= 1;
     assert_eq!(answer(&other), (2, 0));
-    assert_eq!(answer(&with_word(&bad, 4, 4097)), (3, 0));
+    assert_eq!(answer(&with_word(&bad, 4, 8193)), (3, 0));
     assert_eq!(answer(&with_word(&bad, 28, 0)), (4, 0));
     assert_eq!(answer(&bad[..bad.len() - 1]), (4, 0));
     // before 6 and 7

@@ -77,10 +77,11 @@ fn pinned_budget_nought() {
     assert_eq!((kit.state.index, kit.state.steps, kit.state.outputs), (0, 0, 0));
 }
 
+/// N's vector as request L5 of document 02 moves it.
 #[test]
 fn pinned_limits() {
-    assert_eq!(answer(&image(1, &[STOP; 512], &[], &[])), (0, 0));
-    assert_eq!(answer(&image(1, &[STOP; 513], &[], &[])), (3, 0));
+    assert_eq!(answer(&image(1, &[STOP; 2048], &[], &[])), (0, 0));
+    assert_eq!(answer(&image(1, &[STOP; 2049], &[], &[])), (3, 0));
     for op in [19, 20] {
         assert_eq!(answer(&image(64, &[STOP, (op, 0, 0, 0, 60 | 4 << 16)], &[], &[])), (0, 0));
         assert_eq!(answer(&image(64, &[STOP, (op, 0, 0, 0, 60 | 5 << 16)], &[], &[])), (5, 1));

@@ -28,31 +28,31 @@ fn refusal_1_and_2() {
 fn refusal_3_limits() {
     let good = image(1, &[STOP], &[], &[]);
     assert_eq!(answer(&good), (0, 0));
-    assert_eq!(answer(&with_word(&good, 4, 4096)), (0, 0));
-    for m in [0, 4097, ONES] {
+    assert_eq!(answer(&with_word(&good, 4, 8192)), (0, 0));
+    for m in [0, 8193, ONES] {
         assert_eq!(answer(&with_word(&good, 4, m)), (3, 0));
     }
-    for n in [0, 513, 0x2000_0001, ONES] {
+    for n in [0, 2049, 0x2000_0001, ONES] {
         assert_eq!(answer(&with_word(&good, 8, n)), (3, 0));
     }
     for r in [33, 0x1000_0000, ONES] {
         assert_eq!(answer(&with_word(&good, 16, r)), (3, 0));
     }
-    for d in [4097, ONES] {
+    for d in [8193, ONES] {
         assert_eq!(answer(&with_word(&good, 24, d)), (3, 0));
     }
-    let all: Vec<[u32; 3]> = (0..32).map(|k| [128 * k, 128, 1]).collect();
-    let largest = image(4096, &[STOP; 512], &all, &[9; 4096]);
-    assert_eq!(largest.len(), 8608);
+    let all: Vec<[u32; 3]> = (0..32).map(|k| [256 * k, 256, 1]).collect();
+    let largest = image(8192, &[STOP; 2048], &all, &[9; 8192]);
+    assert_eq!(largest.len(), 24_992);
     assert_eq!(answer(&largest), (0, 0));
-    assert_eq!(read(&largest).0, Header { number: 0, index: 0, m: 4096, n: 512, r: 32, d: 4096 });
+    assert_eq!(read(&largest).0, Header { number: 0, index: 0, m: 8192, n: 2048, r: 32, d: 8192 });
     let more: Vec<[u32; 3]> = (0..33).map(|k| [k, 1, 2]).collect();
-    assert_eq!(answer(&image(4096, &[STOP], &more, &[])), (3, 0));
+    assert_eq!(answer(&image(8192, &[STOP], &more, &[])), (3, 0));
     // within limits but not as long as that: 4
     assert_eq!(answer(&with_word(&good, 16, 32)), (4, 0));
-    assert_eq!(answer(&with_word(&good, 24, 4096)), (4, 0));
+    assert_eq!(answer(&with_word(&good, 24, 8192)), (4, 0));
     // 3 comes before 4
-    assert_eq!(answer(&with_word(&with_word(&good, 12, 0), 24, 4097)), (3, 0));
+    assert_eq!(answer(&with_word(&with_word(&good, 12, 0), 24, 8193)), (3, 0));
 }
 
 #[test]

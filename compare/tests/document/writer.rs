@@ -1,5 +1,5 @@
-//! Request L2 of document 02: what an image is written from, how it is laid out, and what is refused. Each
-//! case is tried on the independent writer and on the checker's.
+//! Request L2 of document 02, with the limits of its request L5: what an image is written from, how it is laid
+//! out, and what is refused. Each case is tried on the independent writer and on the checker's.
 
 use compare::checker;
 use compare::types::{Fields, Writer, Written};
@@ -11,6 +11,9 @@ const WRITERS: [Writer; 2] = [writer::WRITER, checker::WRITER];
 
 /// What lies in the buffer before.
 const LEFTOVER: u8 = 0xEE;
+
+/// More bytes than the largest image has.
+const ROOM: usize = 30_000;
 
 fn fields<'a>(m: u32, code: &'a [u32], regions: &'a [u32], data: &'a [u8]) -> Fields<'a> {
     Fields { m, instructions: code, regions, data }
@@ -40,7 +43,7 @@ fn refused(fields: Fields, room: usize) -> (u32, usize) {
 /// What is written, byte for byte, with just the room for it and with more.
 fn writes(fields: Fields, hex: &str) {
     let image = from_hex(hex);
-    for room in [image.len(), image.len() + 1, image.len() + 3, 9000] {
+    for room in [image.len(), image.len() + 1, image.len() + 3, ROOM] {
         assert_eq!(written(fields, room), (0, 0, image.clone()), "room {room}");
     }
     for room in [0, 1, 4, 31, image.len() - 1] {
@@ -50,7 +53,7 @@ fn writes(fields: Fields, hex: &str) {
 
 /// Refused so, or accepted (0), whatever the room is.
 fn answers(fields: Fields, number: u32, index: usize) {
-    let (found, at, _) = written(fields, 9000);
+    let (found, at, _) = written(fields, ROOM);
     assert_eq!((found, at), (number, index));
     if number != 0 {
         assert_eq!(refused(fields, 0), (number, index));
@@ -98,53 +101,78 @@ fn regions_stand_behind_instructions_and_data_behind_regions() {
     );
 }
 
-/// 512 instructions, 32 regions and 4,096 bytes: 32 + 4,096 + 384 + 4,096 are 8,608.
+/// 2,048 instructions, 32 regions and 8,192 bytes: 32 + 16,384 + 384 + 8,192 are 24,992.
 #[test]
 fn the_largest_image() {
-    let code = [0x0001_0011, 511].repeat(512);
-    let regions: Vec<u32> = (0..32).flat_map(|k| [128 * k, 128, 1]).collect();
-    let data: Vec<u8> = (0..4096).map(|k| (k % 251) as u8).collect();
-    let largest = fields(4096, &code, &regions, &data);
-    for room in [8608, 8609, 20_000] {
+    let code = [0x0001_0011, 2047].repeat(2048);
+    let regions: Vec<u32> = (0..32).flat_map(|k| [256 * k, 256, 1]).collect();
+    let data: Vec<u8> = (0..8192).map(|k| (k % 251) as u8).collect();
+    let largest = fields(8192, &code, &regions, &data);
+    for room in [24_992, 24_993, 50_000] {
         let (number, index, image) = written(largest, room);
-        assert_eq!((number, index, image.len()), (0, 0, 8608));
-        let header = "54554E31 00100000 00020000 20000000 20000000 20100000 00100000 A0110000";
+        assert_eq!((number, index, image.len()), (0, 0, 24_992));
+        let header = "54554E31 00200000 00080000 20000000 20000000 20400000 00200000 A0410000";
         assert_eq!(image[..32], from_hex(header));
-        assert_eq!(image[32..40], [0x11, 0, 1, 0, 0xFF, 1, 0, 0]);
-        assert_eq!(image[4120..4128], [0x11, 0, 1, 0, 0xFF, 1, 0, 0]);
-        assert_eq!(image[4128..4140], [0, 0, 0, 0, 128, 0, 0, 0, 1, 0, 0, 0]);
-        assert_eq!(image[4500..4512], [0x80, 0x0F, 0, 0, 128, 0, 0, 0, 1, 0, 0, 0]);
-        assert_eq!(image[4512..], data);
+        assert_eq!(image[32..40], [0x11, 0, 1, 0, 0xFF, 7, 0, 0]);
+        assert_eq!(image[16_408..16_416], [0x11, 0, 1, 0, 0xFF, 7, 0, 0]);
+        assert_eq!(image[16_416..16_428], [0, 0, 0, 0, 0, 1, 0, 0, 1, 0, 0, 0]);
+        assert_eq!(image[16_788..16_800], [0, 0x1F, 0, 0, 0, 1, 0, 0, 1, 0, 0, 0]);
+        assert_eq!(image[16_800..], data);
     }
-    assert_eq!(refused(largest, 8607), (12, 0));
-    assert_eq!(refused(largest, 0), (12, 0));
+    for room in [24_991, 8608, 0] {
+        assert_eq!(refused(largest, room), (12, 0));
+    }
 }
 
 #[test]
 fn refusal_3_limits() {
-    for m in [1, 4095, 4096] {
+    for m in [1, 4095, 4096, 4097, 8191, 8192] {
         answers(fields(m, NOTHING, &[], &[]), 0, 0);
     }
-    for m in [0, 4097, 0x1_0001, ONES] {
+    for m in [0, 8193, 16_384, 0x1_0001, ONES] {
         answers(fields(m, NOTHING, &[], &[]), 3, 0);
     }
     answers(fields(1, &[], &[], &[]), 3, 0);
-    for (n, number) in [(1, 0), (511, 0), (512, 0), (513, 3), (0x1_0001, 3)] {
+    for (n, number) in [(1, 0), (511, 0), (512, 0), (513, 0), (2047, 0), (2048, 0)] {
+        answers(fields(1, &[0, 0].repeat(n), &[], &[]), number, 0);
+    }
+    for (n, number) in [(2049, 3), (4096, 3), (8192, 3), (0x1_0001, 3)] {
         answers(fields(1, &[0, 0].repeat(n), &[], &[]), number, 0);
     }
     for (r, number) in [(31, 0), (32, 0), (33, 3), (257, 3)] {
         let regions: Vec<u32> = (0..r).flat_map(|k| [k, 1, 2]).collect();
-        answers(fields(4096, NOTHING, &regions, &[]), number, 0);
+        answers(fields(8192, NOTHING, &regions, &[]), number, 0);
     }
-    for (d, number) in [(4095, 0), (4096, 0), (4097, 3), (0x1_0001, 3)] {
-        let regions = [0, d.min(4096) as u32, 1];
-        answers(fields(4096, NOTHING, &regions, &vec![7; d]), number, 0);
+    for d in [4095, 4096, 4097, 8191, 8192, 8193, 0x1_0001] {
+        let regions = [0, d.min(8192) as u32, 1];
+        let number = if d > 8192 { 3 } else { 0 };
+        answers(fields(8192, NOTHING, &regions, &vec![7; d]), number, 0);
     }
+}
+
+/// Fields that request L5 no longer refuses with 3: written, or refused with what comes later.
+#[test]
+fn sizes_above_the_former_limits() {
+    let rows = [0, 0].repeat(513);
+    answers(fields(4097, &rows, &[0, 4097, 1], &[5; 4097]), 0, 0);
+    answers(fields(4096, &rows, &[0, 4097, 1], &[5; 4097]), 6, 0);
+    answers(fields(4097, &rows, &[0, 4097, 2], &[5; 4097]), 7, 0);
+    answers(fields(4097, &rows, &[0, 4097, 1], &[5; 4096]), 7, 0);
+    answers(fields(16, NOTHING, &[], &[5; 4097]), 7, 0);
+    for (row, to, number) in [(512, 512, 0), (0, 512, 0), (512, 513, 5), (511, 2047, 5)] {
+        let mut code = rows.clone();
+        (code[2 * row], code[2 * row + 1]) = (0x11, to);
+        answers(fields(1, &code, &[], &[]), number, if number == 5 { row } else { 0 });
+    }
+    // 32 + 8 x 513 + 12 + 4,097 are 8,245
+    let large = fields(4097, &rows, &[0, 4097, 1], &[5; 4097]);
+    assert_eq!(refused(large, 8244), (12, 0));
+    assert_eq!(written(large, 8245).2.len(), 8245);
 }
 
 #[test]
 fn refusal_3_parts_of_entries() {
-    for words in [1, 3, 5, 1023, 1025] {
+    for words in [1, 3, 5, 1023, 1025, 4095, 4097] {
         answers(fields(16, &vec![0; words], &[], &[]), 3, 0);
     }
     let regions = [0, 1, 2, 1, 1, 2, 2];
@@ -214,7 +242,11 @@ fn refusal_5_register_15() {
 
 #[test]
 fn refusal_5_names_the_lowest() {
-    let mut code = [0; 1024];
+    let mut code = [0; 4096];
+    code[4094] = 0x0F01; // register 15 as d
+    answers(fields(16, &code, &[], &[]), 5, 2047);
+    code[1024] = 25;
+    answers(fields(16, &code, &[], &[]), 5, 512);
     code[1022] = 25;
     answers(fields(16, &code, &[], &[]), 5, 511);
     code[600] = 0x0F01;
@@ -246,7 +278,7 @@ fn refusal_6_regions() {
 #[test]
 fn refusal_7_filled_sum() {
     let regions = [0, 4, 1, 4, 3, 2, 9, 2, 1];
-    for (d, number) in [(6, 0), (5, 7), (7, 7), (9, 7), (0, 7), (4, 7), (4096, 7)] {
+    for (d, number) in [(6, 0), (5, 7), (7, 7), (9, 7), (0, 7), (4, 7), (4096, 7), (8192, 7)] {
         answers(fields(16, NOTHING, &regions, &vec![1; d]), number, 0);
     }
     answers(fields(16, NOTHING, &[], &[1]), 7, 0);
@@ -259,11 +291,12 @@ fn refusals_go_in_number_order() {
     assert_eq!(refused(fields(0, &bad_op, &bad_region, &data), 0), (3, 0));
     assert_eq!(refused(fields(16, &[0, 0, 99, 0, 0], &bad_region, &data), 0), (3, 0));
     assert_eq!(refused(fields(16, &bad_op, &[0, 1, 9, 0], &data), 0), (3, 0));
-    assert_eq!(refused(fields(16, &bad_op, &bad_region, &[0; 4097]), 0), (3, 0));
+    assert_eq!(refused(fields(16, &bad_op, &bad_region, &[0; 8193]), 0), (3, 0));
+    assert_eq!(refused(fields(16, &bad_op, &bad_region, &[0; 4097]), 0), (5, 1));
     assert_eq!(refused(fields(16, &[], &bad_region, &data), 0), (3, 0));
     assert_eq!(refused(fields(16, &bad_op, &bad_region, &data), 0), (5, 1));
     assert_eq!(refused(fields(16, NOTHING, &bad_region, &data), 0), (6, 1));
-    assert_eq!(refused(fields(16, NOTHING, &bad_region, &data), 9000), (6, 1));
+    assert_eq!(refused(fields(16, NOTHING, &bad_region, &data), ROOM), (6, 1));
     assert_eq!(refused(fields(16, NOTHING, &[0, 1, 1], &data), 0), (7, 0));
     assert_eq!(refused(fields(16, NOTHING, &[0, 2, 1], &data), 0), (12, 0));
     assert_eq!(refused(fields(16, NOTHING, &[0, 2, 1], &data), 53), (12, 0));

@@ -13,16 +13,17 @@ use compare::claim::{self, Tally, CLAUSES};
 use compare::compare::{compare, Mismatch};
 use compare::coverage::Coverage;
 use compare::plan::Plan;
-use compare::{checker, guard, interpreter, teeth};
+use compare::{checker, former, guard, interpreter, teeth};
 
 use part::{one_of, printed, single, tried, unless, Part};
 
-const USAGE: &str = "compare [--seed S] [--cases K] [--case K0 | --claim K0 | --alarm K0 | \
-                     --written K0 | --rewritten K0 | --fault NAME]";
+const USAGE: &str = "compare [--seed S] [--cases K] [--case K0 | --former K0 | --claim K0 | \
+                     --alarm K0 | --written K0 | --rewritten K0 | --fault NAME]";
 
 /// What is tried alone.
 enum Alone {
     Case(u64),
+    Former(u64),
     Claim(u64),
     Alarm(u64),
     Written(u64),
@@ -35,6 +36,7 @@ impl Alone {
         let number = value.parse().ok();
         Some(match word {
             "--case" => Alone::Case(number?),
+            "--former" => Alone::Former(number?),
             "--claim" => Alone::Claim(number?),
             "--alarm" => Alone::Alarm(number?),
             "--written" => Alone::Written(number?),
@@ -84,7 +86,8 @@ fn comparison(plan: &Plan, cases: Range<u64>, total: &mut Coverage) -> usize {
 fn claims(seed: u64, cases: u64) -> (Tally, usize) {
     let work = |mut numbers: Range<u64>| {
         let mut tally = Tally::with_needs();
-        let mut failure = |k| claim::try_case(&checker::ENGINE, seed, k, &mut tally).err();
+        let calls = claim::MOST_CALLS;
+        let mut failure = |k| claim::try_case(&checker::ENGINE, seed, k, calls, &mut tally).err();
         let failed = numbers.find_map(&mut failure);
         (tally, failed.into_iter().collect())
     };
@@ -122,6 +125,24 @@ fn compared(options: &Options, plan: &Plan) -> (Part, usize) {
     let (met, steps) = (coverage.cases(), coverage.steps());
     let words = format!("{met} cases, {mismatches} mismatches, {steps} steps, {missing} never met");
     (Part { words, passed: mismatches == 0 && missing == 0 && met == cases }, mismatches)
+}
+
+/// The same cases beside the interpreter with the limits of before document 02's request L5.
+fn kept(options: &Options, plan: &Plan) -> Part {
+    println!("The former limits: cases of the comparison by what they allow\n");
+    let cases = plan.counted() + options.cases;
+    let work = |numbers: Range<u64>| {
+        let mut tally = former::Tally::default();
+        let mut mismatch = |k| former::try_case(&checker::ENGINE, plan, k, &mut tally).err();
+        let found: Vec<Mismatch> = numbers.filter_map(&mut mismatch).collect();
+        (tally, found)
+    };
+    let mut total = former::Tally::default();
+    let mismatches = tried(0..cases, work, |tally| total.add(tally));
+    println!("{}", total.table());
+    let missing = printed("never met", &total.missing());
+    let words = format!("{mismatches} answered otherwise than before");
+    Part { words, passed: mismatches == 0 && missing == 0 && total.cases == cases }
 }
 
 /// The claim cases.
@@ -176,11 +197,12 @@ fn bitten(options: &Options, plan: &Plan) -> Part {
 fn all(options: &Options) -> ExitCode {
     let plan = Plan::new(options.seed);
     let (comparison, mismatches) = compared(options, &plan);
+    let former = kept(options, &plan);
     let (claim, alarms) = (claimed(options), alarmed(options));
     let teeth = unless(mismatches, || bitten(options, &plan));
     let (writers, mismatches) = written::compared(options, &plan);
     let writer_teeth = unless(mismatches, || written::bitten(options));
-    let parts = [comparison, claim, alarms, teeth, writers, writer_teeth];
+    let parts = [comparison, former, claim, alarms, teeth, writers, writer_teeth];
     println!("compare: {}", parts.each_ref().map(|part| part.words.as_str()).join("; "));
     ExitCode::from(u8::from(!parts.iter().all(|part| part.passed)))
 }
@@ -190,6 +212,15 @@ fn one_case(options: &Options, number: u64) -> ExitCode {
     one_of(plan.counted() + options.cases, number, || {
         let engines = [&checker::ENGINE, &interpreter::ENGINE];
         let found = compare(engines, &plan, number, &mut Coverage::default())?;
+        Some(found.to_string())
+    })
+}
+
+fn one_former(options: &Options, number: u64) -> ExitCode {
+    let plan = Plan::new(options.seed);
+    one_of(plan.counted() + options.cases, number, || {
+        let tally = &mut former::Tally::default();
+        let found = former::try_case(&checker::ENGINE, &plan, number, tally).err()?;
         Some(found.to_string())
     })
 }
@@ -223,9 +254,11 @@ fn main() -> ExitCode {
     match &options.alone {
         None => all(&options),
         Some(Alone::Case(number)) => one_case(&options, *number),
+        Some(Alone::Former(number)) => one_former(&options, *number),
         Some(Alone::Claim(number)) => {
             let tally = &mut Tally::default();
-            let answer = claim::try_case(&checker::ENGINE, options.seed, *number, tally);
+            let (seed, calls) = (options.seed, claim::MOST_CALLS);
+            let answer = claim::try_case(&checker::ENGINE, seed, *number, calls, tally);
             single(answer.err().map(|failure| failure.to_string()))
         }
         Some(Alone::Alarm(number)) => one_alarm(&options, *number),

@@ -79,15 +79,15 @@ impl Byte {
 }
 
 /// What a load or store, which leaves A alone, finds at its address.
-struct Access<'a> {
-    address: u32,
+pub struct Access<'a> {
+    pub address: u32,
     /// Did it report and clear the register that it loads or stores?
     reports_d: bool,
     desk: &'a Desk,
 }
 
 impl Access<'_> {
-    fn of<'a>(step: &Step<'a>) -> Access<'a> {
+    pub fn of<'a>(step: &Step<'a>) -> Access<'a> {
         let &Step { row, before, after: desk } = step;
         let [d, a] = [1, 2].map(|at| usize::from(row[at]));
         let address = before.regs[a].wrapping_add(word_at(row, 4));
@@ -100,6 +100,10 @@ impl Access<'_> {
         let buffers = [&self.desk.mem, &self.desk.v, &self.desk.a];
         let [data, v, a] = buffers.map(|buffer| buffer.get(at).copied());
         Some(Byte { data: data?, v: v?, addressable: a? == 1 })
+    }
+
+    pub fn is_addressable(&self, k: u32) -> bool {
+        self.byte(k.into()).is_some_and(|byte| byte.addressable)
     }
 
     /// The first seven sorts of a load: its top byte, and whether bits of the one below are undefined.
