@@ -1,21 +1,21 @@
 -- Laws of the dispatch: the instruction that the fields make, by the op that a match has found; what the function of its group asks for follows from what
 -- is known of it, and what it promises is its step.
 use Prim.Native.Nat.{ℕ, _+_, _<_}
-use mathlib.Core.Path.{_≡_, refl, sym, _∙_, subst}
+use mathlib.Core.Path.{_≡_, refl, sym, ap, _∙_, subst}
 use mathlib.Core.Logic.{inl, inr, ⊎-elim}
-use mathlib.Core.Bool.{Bool, true, false, _||_}
+use mathlib.Core.Bool.{Bool, true, false, not, _||_}
 use mathlib.Core.List.{List, [], _∷_}
 use lib.Dec.{eqb}
 use types.Run.{OneOf}
 use borrow.Author.Tests.{eqb-true, ne-eqb}
 use Rattle.rules.specs.declared.Operation.{Operation}
-use Rattle.rules.specs.declared.Operation.the-variants.{Add, Sub, Mul, And, Or, Xor, Shl, Shr, Sar, Eq, Ltu}
 use Rattle.image.specs.Rows.{rowOf, literalMark, rangeStart, rangeLength, operandOf, built, Fields, fieldsAt}
-use Rattle.image.specs.Encoding.{opOf, ops}
+use Rattle.image.specs.Encoding.{opOf, ops, loadOp, storeOp, markOp}
 use Rattle.image.specs.declared.Operand.the-variants.{Register, Literal}
 use Rattle.image.specs.declared.Width.{Width}
 use Rattle.image.specs.declared.Widening.{Widening}
 use Rattle.image.proofs.Tests.{apart, either, every-below}
+use Rattle.image.proofs.EncodingLaws.{row-of-op, row-of-load, row-of-store, row-of-mark}
 use Rattle.image.specs.declared.Instruction.{Instruction}
 use Rattle.image.specs.declared.Instruction.the-variants.{Stop, Move, Compute, Load, Store, Jump, Emit, Mark}
 use Rattle.machine.specs.Machine.{Parts, parts}
@@ -67,6 +67,25 @@ is-access {op} l r =
     (λ (e : among keys op ≡ true). absurd (none-among keys op r e))
     (either (oneOf storeOps op || oneOf loadOps op) (among keys op) (every-below covered ops refl op l))
 
+-- the op of a load or store is the number of its width and widening: tried on each op
+loads : ℕ → Bool
+loads op = not (oneOf loadOps op) || eqb (loadOp (widthOf op) (wideningOf op)) op
+
+stores : ℕ → Bool
+stores op = not (oneOf storeOps op) || eqb (storeOp (widthOf op)) op
+
+passes : (t : Bool) (k op : ℕ) → (not t || eqb k op) ≡ true → t ≡ true → k ≡ op
+passes true k op h e = eqb-true k op h
+passes false k op h e = apart (sym e)
+
+load-number : (op : ℕ) → op < ops → oneOf loadOps op ≡ true → loadOp (widthOf op) (wideningOf op) ≡ op
+unfolding loads loadOp
+load-number op l = passes (oneOf loadOps op) _ op (every-below loads ops refl op l)
+
+store-number : (op : ℕ) → op < ops → oneOf storeOps op ≡ true → storeOp (widthOf op) ≡ op
+unfolding stores storeOp
+store-number op l = passes (oneOf storeOps op) _ op (every-below stores ops refl op l)
+
 -- ---- the instruction of an op that a match has found
 module _ {code : List ℕ} {index op : ℕ} (its : ByteIs code index 0 op) where
   abbrev f : Fields
@@ -80,39 +99,24 @@ module _ {code : List ℕ} {index op : ℕ} (its : ByteIs code index 0 op) where
   told-move e = rw (same, e) refl
 
   pub told : (o : Operation) → op ≡ opOf o → standing code index ≡ computeAt o code index
-  unfolding standing computeAt rowOf built opOf
-  told Add e = rw (same, e) refl
-  told Sub e = rw (same, e) refl
-  told Mul e = rw (same, e) refl
-  told And e = rw (same, e) refl
-  told Or e = rw (same, e) refl
-  told Xor e = rw (same, e) refl
-  told Shl e = rw (same, e) refl
-  told Shr e = rw (same, e) refl
-  told Sar e = rw (same, e) refl
-  told Eq e = rw (same, e) refl
-  told Ltu e = rw (same, e) refl
+  unfolding standing computeAt built
+  told o e = rw (same, e, row-of-op o) refl
 
-  module _ {d a imm : ℕ} {width : Width} (w : width ≡ widthOf op) (first : ByteIs code index 1 d) (second : ByteIs code index 2 a) (third : ImmIs code index imm) where
-    told-load-one : {widening : Widening} → widening ≡ wideningOf op → OneOf loadOps op → standing code index ≡ Load width widening d a imm
-    unfolding standing rowOf built
-    told-load-one z (inl e) = rw (w, z, first .same, second .same, third .same, same, e) refl
-    told-load-one z (inr (inl e)) = rw (w, z, first .same, second .same, third .same, same, e) refl
-    told-load-one z (inr (inr (inl e))) = rw (w, z, first .same, second .same, third .same, same, e) refl
-    told-load-one z (inr (inr (inr (inl e)))) = rw (w, z, first .same, second .same, third .same, same, e) refl
-    told-load-one z (inr (inr (inr (inr e)))) = rw (w, z, first .same, second .same, third .same, same, e) refl
+  module _ {d a imm : ℕ} {width : Width} (w : width ≡ widthOf op) (first : ByteIs code index 1 d) (second : ByteIs code index 2 a) (third : ImmIs code index imm)
+      (access : IsAccess op) {t : Bool} (tested : t ≡ oneOf storeOps op) where
+    pub told-store : t ≡ true → standing code index ≡ Store width d a imm
+    unfolding standing built
+    told-store taken =
+        let e = store-number op (access .known) (sym tested ∙ taken) in
+        let row = ap rowOf (sym e) ∙ row-of-store (widthOf op) in
+        rw (w, first .same, second .same, third .same, same, row) refl
 
-    told-store-one : OneOf storeOps op → standing code index ≡ Store width d a imm
-    unfolding standing rowOf built
-    told-store-one (inl e) = rw (w, first .same, second .same, third .same, same, e) refl
-    told-store-one (inr (inl e)) = rw (w, first .same, second .same, third .same, same, e) refl
-    told-store-one (inr (inr e)) = rw (w, first .same, second .same, third .same, same, e) refl
-
-    pub told-load : {widening : Widening} → widening ≡ wideningOf op → IsAccess op → {t : Bool} → t ≡ oneOf storeOps op → t ≡ false → standing code index ≡ Load width widening d a imm
-    told-load z access e left = told-load-one z (is-one loadOps op (access .listed (sym e ∙ left)))
-
-    pub told-store : {t : Bool} → t ≡ oneOf storeOps op → t ≡ true → standing code index ≡ Store width d a imm
-    told-store e taken = told-store-one (is-one storeOps op (sym e ∙ taken))
+    pub told-load : {widening : Widening} → widening ≡ wideningOf op → t ≡ false → standing code index ≡ Load width widening d a imm
+    unfolding standing built
+    told-load z left =
+        let e = load-number op (access .known) (access .listed (sym tested ∙ left)) in
+        let row = ap rowOf (sym e) ∙ row-of-load (widthOf op) (wideningOf op) (subst (λ (k : ℕ). k < ops) (sym e) (access .known)) in
+        rw (w, z, first .same, second .same, third .same, same, row) refl
 
   module _ {a imm : ℕ} (second : ByteIs code index 2 a) (third : ImmIs code index imm) where
     pub told-jump : op ≡ 17 → standing code index ≡ Jump a imm
@@ -123,13 +127,9 @@ module _ {code : List ℕ} {index op : ℕ} (its : ByteIs code index 0 op) where
     unfolding standing rowOf built
     told-emit e = rw (second .same, third .same, same, e) refl
 
-  pub told-open : op ≡ 19 → standing code index ≡ markAt true code index
-  unfolding standing markAt rowOf built
-  told-open e = rw (same, e) refl
-
-  pub told-close : op ≡ 20 → standing code index ≡ markAt false code index
-  unfolding standing markAt rowOf built
-  told-close e = rw (same, e) refl
+  pub told-mark : (addressable : Bool) → op ≡ markOp addressable → standing code index ≡ markAt addressable code index
+  unfolding standing markAt built
+  told-mark addressable e = rw (same, e, row-of-mark addressable) refl
 
   pub told-stop : op ≡ 0 → standing code index ≡ Stop
   unfolding standing rowOf built

@@ -99,7 +99,7 @@ decoded-encoding code i n m v h =
     tt)
 
 -- ---- what stands there and fits is decoded
-row-of-op : (op : Operation) → rowOf (opOf op) ≡ Computes op
+pub row-of-op : (op : Operation) → rowOf (opOf op) ≡ Computes op
 unfolding rowOf opOf
 row-of-op Add = refl
 row-of-op Sub = refl
@@ -113,7 +113,7 @@ row-of-op Sar = refl
 row-of-op Eq = refl
 row-of-op Ltu = refl
 
-row-of-load : (width : Width) (widening : Widening) → loadOp width widening < ops → rowOf (loadOp width widening) ≡ Loads width widening
+pub row-of-load : (width : Width) (widening : Widening) → loadOp width widening < ops → rowOf (loadOp width widening) ≡ Loads width widening
 unfolding rowOf loadOp
 row-of-load Byte Zero h = refl
 row-of-load Half Zero h = refl
@@ -122,13 +122,13 @@ row-of-load Byte Sign h = refl
 row-of-load Half Sign h = refl
 row-of-load Word Sign h = absurd (omega arith)
 
-row-of-store : (width : Width) → rowOf (storeOp width) ≡ Stores width
+pub row-of-store : (width : Width) → rowOf (storeOp width) ≡ Stores width
 unfolding rowOf storeOp
 row-of-store Byte = refl
 row-of-store Half = refl
 row-of-store Word = refl
 
-row-of-mark : (addressable : Bool) → rowOf (markOp addressable) ≡ Marks addressable
+pub row-of-mark : (addressable : Bool) → rowOf (markOp addressable) ≡ Marks addressable
 unfolding rowOf markOp
 row-of-mark true = refl
 row-of-mark false = refl

@@ -1,11 +1,11 @@
 use borrow.Author.Needs.{needs}
-use Rattle.image.specs.Encoding.{opOf}
-use Rattle.checker.proofs.DispatchLaws.{is-access, told-move, told, told-jump, told-emit, told-open, told-close, told-stop, fits-memory, fits-some, by-registers, by-use, by-output, by-marks, by-counts}
+use Rattle.image.specs.Encoding.{opOf, markOp}
+use Rattle.checker.proofs.DispatchLaws.{is-access, told-move, told, told-jump, told-emit, told-mark, told-stop, fits-memory, fits-some, by-registers, by-use, by-output, by-marks, by-counts}
 use Rattle.checker.proofs.dispatch.step.Statement.{statement}
 use Rattle.checker.proofs.dispatch.step.Tie as tie
 
 pub step-spec : {M : Type 1} → statement M
-unfolding opOf
+unfolding opOf markOp
 step-spec =
     tie.close
     (tie.spec
@@ -28,8 +28,8 @@ step-spec =
     (λ c κs. search needs)
     (λ c κs. search needs)
     (λ c κs. (search, search (fits-some, told-emit)))
-    (λ c κs. (search, search, search (fits-memory, told-open), search))
-    (λ c κs. (search, search, search (fits-memory, told-close), search))
+    (λ c κs. (search, search, search (fits-memory, told-mark), search))
+    (λ c κs. (search, search, search (fits-memory, told-mark), search))
     (λ c κs.
     let s : tie.Start = search in
     let m : tie.At-match-rest = search in
@@ -64,10 +64,10 @@ step-spec =
     by-output (p .emit .ensures) (told-emit (s .pre .0) (f .field2 .ensures) (i .imm2 .ensures) (f .before .match .keys15)))
     (λ c. search needs)
     (λ c. search needs)
-    (λ c. let p : tie.After-marks = search in by-marks (p .marks .ensures) (search told-open))
+    (λ c. let p : tie.After-marks = search in by-marks (p .marks .ensures) (search told-mark))
     (λ c. search needs)
     (λ c. search needs)
-    (λ c. let p : tie.After-marks2 = search in by-marks (p .marks2 .ensures) (search told-close))
+    (λ c. let p : tie.After-marks2 = search in by-marks (p .marks2 .ensures) (search told-mark))
     (λ c. search needs)
     (λ c. search needs)
     (λ c. search needs)
