@@ -4,6 +4,7 @@
 // `image`, `checker`, `writer` or `commands` of its name does, for every input. The functions' names
 // are the symbols that a program is linked by; the version ends them, so that a program for another
 // version does not link.
+#![tactic(auto)]
 ghost use Rattle.std.specs.Prelude.{◌≡◌, ◌+◌, ◌≤◌, get_or};
 ghost use Rattle.image.specs.Format.{registers as registerCount, part_of};
 ghost use Rattle.machine.specs.Ranges.{written};

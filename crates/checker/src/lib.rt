@@ -1,6 +1,7 @@
 // The checker (document 01: the bench): begins and runs a program with a V bit beside every bit and
 // an A byte beside every byte. `begin` and `run` take any image, any state and buffers of any size,
 // check everything themselves, and equal `begin_answer` and `run_answer` of the crate `machine`.
+#![tactic(auto)]
 use image::Refusal;
 use rules::{Data, Shadow};
 
@@ -20,7 +21,7 @@ mod step; // step.rt: what each group of instructions does
 pub use calls::{begin, run};
 
 // The next instruction's index; how many steps were taken, outputs and reports made.
-#[derive(Drop)]
+#[derive(Clone, Copy)]
 pub struct Counts {
     pub index: u32,
     pub steps: u32,
@@ -29,7 +30,7 @@ pub struct Counts {
 }
 
 // The registers with their V words, and the counts.
-#[derive(Drop)]
+#[derive(Clone, Copy)]
 pub struct State {
     pub regs: [Data; 16],
     pub shadows: [Shadow; 16],
@@ -37,14 +38,14 @@ pub struct State {
 }
 
 // What beginning answers: number 0 or a refusal, and the state.
-#[derive(Drop)]
+#[derive(Clone, Copy)]
 pub struct Began {
     pub refusal: Refusal,
     pub state: State,
 }
 
 // What a run answers: number 0 or a refusal, the stop reason's number, and the state.
-#[derive(Drop)]
+#[derive(Clone, Copy)]
 pub struct Ran {
     pub refusal: Refusal,
     pub reason: u8,

@@ -13,7 +13,7 @@ use flat::limits::OUTPUT;
 use image::ops;
 
 // Why a run ended, or that it goes on, and its counts.
-#[derive(Drop)]
+#[derive(Clone, Copy)]
 pub struct Ended {
     pub reason: u8,
     pub counts: Counts,

@@ -101,7 +101,7 @@ fn use_bytes(c: Counts, kind: u32, whole: bool, place: u32, reports: &mut [u32])
 
 // An access to memory after its checks: where it begins, whether all its bytes are addressable, and
 // the counts with its reports.
-#[derive(Drop)]
+#[derive(Clone, Copy)]
 struct Access {
     at: usize,
     whole: bool,

@@ -1,6 +1,7 @@
 // The program image (document 01: the card): reads any bytes, says the first refusal that applies,
 // decodes instructions. Every function that another crate can call is total and equals its
 // definition in specs/.
+#![tactic(auto)]
 use rules::{Data, Operation};
 
 pub mod format; // format.rt: the fixed numbers of an image, and its parts
@@ -16,14 +17,14 @@ pub use regions::{end_of, filled_of, region_at, region_keeps};
 pub use rows::decode;
 
 // The second operand, B.
-#[derive(Drop)]
+#[derive(Clone, Copy)]
 pub enum Operand {
     Register(u8),
     Literal(Data),
 }
 
 // How much of memory a load or store moves, in the order of their ops.
-#[derive(Drop)]
+#[derive(Clone, Copy)]
 pub enum Width {
     Byte,
     Word,
@@ -31,7 +32,7 @@ pub enum Width {
 }
 
 // What a load puts above the bytes that it moves: zeros, or copies of their top bit.
-#[derive(Drop)]
+#[derive(Clone, Copy)]
 pub enum Widening {
     Zero,
     Sign,
@@ -39,7 +40,7 @@ pub enum Widening {
 
 // A decoded instruction. d, a and b are as in document 01's table; OPEN and CLOSE are one case that
 // marks a range of bytes as addressable or not.
-#[derive(Drop)]
+#[derive(Clone, Copy)]
 pub enum Instruction {
     Stop,
     Move {
@@ -81,14 +82,14 @@ pub enum Instruction {
 }
 
 // An instruction, or the index of the one that breaks its row.
-#[derive(Drop)]
+#[derive(Clone, Copy)]
 pub enum Decoded {
     Valid(Instruction),
     Fault(usize),
 }
 
 // A region: where it starts, how many bytes it has, and its kind.
-#[derive(Drop)]
+#[derive(Clone, Copy)]
 pub struct Region {
     pub start: u32,
     pub size: u32,
@@ -96,14 +97,14 @@ pub struct Region {
 }
 
 // A refusal's number and the index at fault; zeros where nothing is refused.
-#[derive(Drop)]
+#[derive(Clone, Copy)]
 pub struct Refusal {
     pub number: u8,
     pub index: usize,
 }
 
 // M, N, R and D, zeros when refused, and the refusal.
-#[derive(Drop)]
+#[derive(Clone, Copy)]
 pub struct Header {
     pub m: u32,
     pub n: u32,

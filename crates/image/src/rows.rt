@@ -9,7 +9,7 @@ use super::ops::LITERAL;
 use super::{Data, Decoded, Instruction, Operand, Operation, Widening, Width, format, ops, words};
 
 // The row of an op, before its fields are looked at; ops above the last have none.
-#[derive(Drop)]
+#[derive(Clone, Copy)]
 enum Row {
     Stops,
     Moves,

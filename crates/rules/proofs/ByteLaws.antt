@@ -1,6 +1,6 @@
 -- Bytes of a number and the number of some bytes: each undoes the other, and both keep the agreement, over any number of bytes; and so does
 -- widening by their sign.
-use Rattle.std.proofs.Common.{◌≡◌, ℕ, zero, suc, ◌+◌, ◌-◌, ◌*◌, ◌/◌, ◌%◌, ◌^◌, ◌<◌, ◌≤◌, min, max, ◌⊎◌, sym, ap, ◌∙◌, subst, inl, inr, ⊎_elim, lt_of_lt_of_le, mod-lt, mod-eq_of_lt, arith, pow_pos, pow_mono, shl_lt, shl_exact}
+use Rattle.std.proofs.Common.{◌≡◌, ℕ, zero, suc, ◌+◌, ◌-◌, ◌*◌, ◌/◌, ◌%◌, ◌^◌, ◌<◌, ◌≤◌, min, max, sym, ap, ◌∙◌, subst, inl, inr, ⊎_elim, lt_of_lt_of_le, mod-lt, mod-eq_of_lt, arith, pow_pos, pow_mono, shl_lt, shl_exact}
 use native.Mathlib.Nat.{div-eq_of_lt}
 use lib.Pow.{ones_lt, high, low, field, mod-mod-pow, mod-pow-add}
 use lib.Bits.{bit_or, or_lt, or_shifted_r, or_zero_r}

@@ -1,5 +1,5 @@
 -- SHL, SHR and SAR: each moves bits, and so its rule is sound.
-use Rattle.std.proofs.Common.{◌≡◌, ℕ, ◌+◌, ◌-◌, ◌*◌, ◌^◌, ◌<◌, ◌≤◌, min, max, Bool, true, false, cond, eqb, ◌⊎◌, refl, ap, ◌∙◌, subst, ap₂, inl, inr, ⊎_elim, lt_of_le_of_lt, arith, eqb-true}
+use Rattle.std.proofs.Common.{◌≡◌, ℕ, ◌+◌, ◌-◌, ◌*◌, ◌^◌, ◌<◌, ◌≤◌, min, max, Bool, true, false, cond, eqb, refl, ap, ◌∙◌, subst, ap₂, inl, inr, ⊎_elim, lt_of_le_of_lt, arith, eqb-true}
 use lib.Pow.{shr_le}
 use lib.Bits.{or_lt}
 use Rattle.rules.specs.Word.{bit, all_ones, copies}

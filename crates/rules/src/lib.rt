@@ -1,6 +1,8 @@
 // The bottom of the checker: the two kinds of word, what each operation does to data, and the
 // shadow rule that says which bits of the result are undefined. Every function is total and equals
 // its definition in specs/.
+#![tactic(auto)]
+
 ghost use Rattle.std.specs.Prelude.{◌≡◌};
 ghost use Rattle.rules.specs.Operations.{action_of, shadow_of};
 
@@ -10,15 +12,15 @@ pub mod shadows; // shadows.rt: the shadow rules
 mod words; // words.rt: what data and V bits have in common
 
 // A data word.
-#[derive(Drop)]
+#[derive(Clone, Copy)]
 pub struct Data(pub u32);
 
 // A V word: a bit is 1 where the data bit is undefined, 0 where it is defined.
-#[derive(Drop)]
+#[derive(Clone, Copy)]
 pub struct Shadow(pub u32);
 
 // The operations on two operands; document 01's ops 2 to 12, in its order.
-#[derive(Drop)]
+#[derive(Clone, Copy)]
 pub enum Operation {
     Add,
     Sub,
@@ -34,6 +36,7 @@ pub enum Operation {
 }
 
 // What an operation does to data.
+#[tactic(auto, unfolding(crate::specs::Operations::action_of))]
 pub fn action(op: Operation, x: Data, y: Data) -> Data
     ensures { result.0 ≡ action_of op x.0 y.0 }
 {
@@ -53,6 +56,7 @@ pub fn action(op: Operation, x: Data, y: Data) -> Data
 }
 
 // What an operation does to V bits. same: both operands are one register.
+#[tactic(auto, unfolding(crate::specs::Operations::shadow_of))]
 pub fn shadow_of(op: Operation, same: bool, x: Data, v: Shadow, y: Data, w: Shadow) -> Shadow
     ensures { result.0 ≡ shadow_of op same x.0 v.0 y.0 w.0 }
 {

@@ -23,6 +23,7 @@ pub fn negate(v: u32) -> u32
 }
 
 // The mask where bit j of x is set, else 0.
+#[tactic(auto, unfolding(crate::specs::Word::bit, crate::specs::Word::copies))]
 pub fn copies_of(j: u32, mask: u32, x: u32) -> u32
     requires { j < 32 }
     ensures { result ≡ copies j mask x }

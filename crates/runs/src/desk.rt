@@ -9,7 +9,7 @@ use image::format;
 use rules::bytes::byte;
 
 // The size of the image; what a call is lent; the series as it was kept, and as it is.
-#[derive(Drop)]
+#[derive(Clone, Copy)]
 pub struct Desk {
     pub size: usize,
     pub sizes: Sizes,

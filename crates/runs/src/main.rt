@@ -1,5 +1,6 @@
 // A script of programs, which the compiled checker begins and runs: it is read from standard input, the
 // file stdin beside src/. The file stdout was written by hand from the documents, and the gate compares.
+#![tactic(auto)]
 use libc::STDIN_FILENO;
 use numbers::LINE;
 

@@ -17,7 +17,7 @@ pub const OUTPUTS: usize = 514;
 const LARGE: usize = image::format::MOST_M as usize + 1;
 
 // What the last call answered, and what it left.
-#[derive(Drop)]
+#[derive(Clone, Copy)]
 pub struct Series {
     pub refusal: Refusal,
     pub reason: u8,
@@ -30,7 +30,7 @@ pub struct Series {
 }
 
 // How many bytes and words a call gets: the buffers for memory, V and A, the two lists.
-#[derive(Drop)]
+#[derive(Clone, Copy)]
 pub struct Sizes {
     pub mem: usize,
     pub vbits: usize,

@@ -1,5 +1,6 @@
 // The checker as a program (document 01, The program): an image on standard input, reports, outputs and
 // the end on standard output. All that matters is in the crate `checker`.
+#![tactic(auto)]
 ghost use Rattle.std.specs.Prelude.{◌≡◌, length};
 ghost use Rattle.image.specs.Format.{most_m};
 

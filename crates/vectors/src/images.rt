@@ -72,7 +72,7 @@ fn put_region(image: &mut [u8], at: u16, start: u32, size: u32, kind: u32) {
 }
 
 // A byte of the example and its new value, and another; or the same one twice.
-#[derive(Drop)]
+#[derive(Clone, Copy)]
 struct Change(u8, u8, u8, u8);
 
 // The changes stand in two tables, since a check takes by the square of a table's length: where the rows
@@ -205,7 +205,7 @@ pub fn sample() {
 }
 
 // Start, length and kind of two regions, and D.
-#[derive(Drop)]
+#[derive(Clone, Copy)]
 struct Pair(u32, u32, u32, u32, u32, u32, u8);
 
 const PAIRED: usize = 17;

@@ -1,5 +1,6 @@
 // Cases of the documents and our own, run by the compiled code, one line each. The file stdout beside
 // src/ was written by hand from the documents, and the gate compares.
+#![tactic(auto)]
 mod images; // images.rt: images, and what the reader answers
 mod rows; // rows.rt: instructions, and what they decode to
 mod show; // show.rt: text, words and numbers

@@ -128,7 +128,7 @@ const SECOND: usize = 76;
 const CASES: usize = 98;
 
 // op, d, a, b and imm.
-#[derive(Drop)]
+#[derive(Clone, Copy)]
 struct Fields(u8, u8, u8, u8, u32);
 
 // Every row of document 01 at the ends of its fields; then past an end, and an unused field that is not

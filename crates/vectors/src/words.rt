@@ -5,7 +5,7 @@ use super::show::{number, text, word};
 use rules::{Data, Operation, Shadow};
 
 // An operation, whether both operands are one register, and x, v, y and w.
-#[derive(Drop)]
+#[derive(Clone, Copy)]
 struct Case(Operation, bool, u32, u32, u32, u32);
 
 // The rows of rules/specs/Pinned.antt in its order: first those that document 01 pins, ADD's and EQ's as

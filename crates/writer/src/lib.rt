@@ -2,6 +2,7 @@
 // reader accepts. It looks at everything before it writes the first byte, by the reader's own rules,
 // and needs no room but the buffer that it is lent. The call is total and equals its definition in
 // specs/.
+#![tactic(auto)]
 ghost use Rattle.writer.specs.Promises.{WritePromise};
 
 use image::Refusal;
@@ -13,7 +14,7 @@ mod checks; // checks.rt: the refusals of writing
 mod layout; // layout.rt: the image, put into a buffer
 
 // A refusal, zeros where there is none, and how many bytes the image has, 0 when refused.
-#[derive(Drop)]
+#[derive(Clone, Copy)]
 pub struct Wrote {
     pub refusal: Refusal,
     pub size: usize,

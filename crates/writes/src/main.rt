@@ -1,5 +1,6 @@
 // Images written by the compiled writer: the refusal, the size, and bytes of the buffer. The file
 // stdout beside src/ was written by hand from the documents, and the gate compares.
+#![tactic(auto)]
 mod cases; // cases.rt: what is written
 mod show; // show.rt: text, numbers and bytes
 
