@@ -2,6 +2,7 @@
 // decodes instructions. Every function that another crate can call is total and equals its
 // definition in specs/.
 #![tactic(auto)]
+
 use rules::{Data, Operation};
 
 pub mod format; // format.rt: the fixed numbers of an image, and its parts

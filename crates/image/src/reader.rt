@@ -39,6 +39,7 @@ fn layout_ok(image: &[u8], n: u32, r: u32, d: u32) -> bool
 }
 
 // Refusal 5 at the first instruction that breaks its row.
+#[tactic(auto, unfolding(crate::specs::Refusals::code_refusal, crate::specs::Refusals::instruction_ok))]
 fn check_code(code: &[u8], n: u32, m: u32) -> Refusal
     ensures { result ≡ code_refusal code.now n m }
 {
@@ -54,6 +55,7 @@ fn check_code(code: &[u8], n: u32, m: u32) -> Refusal
 }
 
 // Refusal 6 at the first region that breaks the rules.
+#[tactic(auto, unfolding(crate::specs::Refusals::region_refusal))]
 fn check_regions(regions: &[u8], r: u32, m: u32) -> Refusal
     ensures { result ≡ region_refusal regions.now r m }
 {
@@ -87,6 +89,7 @@ fn check_content(code: &[u8], regions: &[u8], m: u32, n: u32, r: u32, d: u32) ->
 }
 
 // The first refusal that applies, in number order.
+#[tactic(auto, unfolding(crate::specs::Refusals::refusal_of))]
 fn check(image: &[u8]) -> Refusal
     ensures { result ≡ refusal_of image.now }
 {
@@ -112,6 +115,7 @@ fn check(image: &[u8]) -> Refusal
 }
 
 // Reads an image: M, N, R and D, zeros when refused, and the refusal.
+#[tactic(auto, unfolding(crate::specs::Refusals::header_of))]
 pub fn read(image: &[u8]) -> Header
     ensures { result ≡ header_of image.now }
 {
@@ -137,6 +141,7 @@ pub fn read(image: &[u8]) -> Header
 
 // The code, as a part of the image; empty when refused. It reads the image again: whoever has its
 // header takes `format::code_part`.
+#[tactic(auto, unfolding(crate::specs::Refusals::code_of))]
 pub fn code(image: &[u8]) -> &[u8]
     ensures { result.now ≡ code_of image.now }
 {

@@ -6,6 +6,7 @@ use super::format::{FILLED, REGION, UNDEFINED};
 use super::{Region, words};
 
 // Region number i of a list of regions; zeros past the last.
+#[tactic(auto, unfolding(crate::specs::Regions::region_at))]
 pub fn region_at(regions: &[u8], i: usize) -> Region
     ensures { result ≡ region_at regions.now i }
 {
@@ -32,6 +33,7 @@ pub fn end_of(found: Region) -> usize
 }
 
 // The end of the region before number i.
+#[tactic(auto, unfolding(crate::specs::Regions::end_before))]
 fn end_before(regions: &[u8], i: usize) -> usize
     ensures { result ≡ end_before regions.now i }
 {
@@ -52,6 +54,7 @@ pub fn region_keeps(found: Region, before: usize, m: u32) -> bool
 }
 
 // Whether region number i keeps the rules.
+#[tactic(auto, unfolding(crate::specs::Regions::region_ok))]
 pub fn region_ok(regions: &[u8], m: u32, i: usize) -> bool
     ensures { result ≡ region_ok regions.now m i }
 {

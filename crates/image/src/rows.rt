@@ -26,6 +26,7 @@ const REGISTERS: u8 = format::REGISTERS as u8;
 
 const FRAME_REGISTER: u8 = format::FRAME_REGISTER as u8;
 
+#[tactic(auto, unfolding(crate::specs::Rows::row_of))]
 fn row_of(op: u8) -> Row
     ensures { result ≡ row_of op }
 {
@@ -81,6 +82,7 @@ fn range_ok(imm: u32, m: u32) -> bool
 }
 
 // Whether the fields keep their row; an unused field is 0.
+#[tactic(auto, unfolding(crate::specs::Rows::fields_ok))]
 fn fields_ok(row: Row, d: u8, a: u8, b: u8, imm: u32, n: u32, m: u32) -> bool
     ensures { result ≡ fields_ok row d a b imm n m }
 {
@@ -108,6 +110,7 @@ fn operand_of(b: u8, imm: u32) -> Operand
 }
 
 // The instruction of fields that keep their row; of no row there is none, and the answer is not used.
+#[tactic(auto, unfolding(crate::specs::Rows::built))]
 fn build(row: Row, d: u8, a: u8, b: u8, imm: u32) -> Instruction
     ensures { result ≡ built row d a b imm }
 {
@@ -147,6 +150,7 @@ fn build(row: Row, d: u8, a: u8, b: u8, imm: u32) -> Instruction
     }
 }
 
+#[tactic(auto, unfolding(crate::specs::Rows::decoded))]
 fn decode_fields(row: Row, d: u8, a: u8, b: u8, imm: u32, index: usize, n: u32, m: u32) -> Decoded
     ensures { result ≡ decoded row d a b imm index n m }
 {

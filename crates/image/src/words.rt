@@ -3,6 +3,7 @@ ghost use Rattle.std.specs.Prelude.{◌≡◌, ◌+◌, ◌*◌, ◌≤◌, leng
 ghost use Rattle.image.specs.Words.{nth_word};
 
 // Word number k.
+#[tactic(auto, unfolding(crate::specs::Words::nth_word, rules::specs::Bytes::joined))]
 pub fn nth(s: &[u8], k: usize) -> u32
     requires { 4 * k + 4 ≤ length s.now }
     ensures { result ≡ nth_word s.now k }

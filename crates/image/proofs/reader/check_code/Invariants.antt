@@ -1,0 +1,13 @@
+use Rattle.std.proofs.Common.{◌-◌, ◌≡◌, ◌≤◌}
+use Rattle.image.specs.Refusals.{bad_instruction, first_fault, instruction_ok, code_refusal}
+use Rattle.image.proofs.reader.check_code.Given as goal
+
+-- what is still to come decides
+abbrev pub invariant-loop-i : goal.invariant-loop-i
+invariant-loop-i l = record {
+  within : l.i ≤ l.count;
+  rest : first_fault bad_instruction (instruction_ok l.code l.n l.m) l.i (l.count - l.i) ≡ code_refusal l.code l.n l.m;
+}
+
+abbrev pub decreases-loop-i : goal.decreases-loop-i
+decreases-loop-i l = l.count - l.i
