@@ -9,7 +9,7 @@ use borrow.Author.Tests.{eqb-true, ne_eqb}
 use native.Mathlib.Omega.{arith}
 use Rattle.image.specs.Format.{registers, field_m}
 use Rattle.image.specs.Accepted.{Accepted}
-use Rattle.image.specs.Refusals.{refused, accepted, refusal_of}
+use Rattle.image.specs.Refusals.{accepted, refusal_of}
 use Rattle.image.proofs.Tests.{all_three}
 use Rattle.image.proofs.Faults.{passed, both-passed}
 use Rattle.image.proofs.AcceptedImage.{accepted-image}

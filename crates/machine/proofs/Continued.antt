@@ -6,7 +6,6 @@ use mathlib.Core.Bool.{Bool, true, false}
 use mathlib.Core.List.{List, [], ◌∷◌}
 use native.Mathlib.Omega.{arith}
 use lib.ListN.{set, replicate}
-use Rattle.image.specs.Tests.{every}
 use Rattle.image.specs.Words.{Bytes}
 use Rattle.image.specs.Format.{field_m, field_n, field_r}
 use Rattle.image.specs.Accepted.{Accepted, Fits}

@@ -1,5 +1,5 @@
 -- The checker's machine beside the bare one, before the first report: what every step keeps.
-use Prim.Native.Nat.{ℕ, zero, suc, ◌+◌, ◌-◌, ◌^◌, ◌*◌, ◌≤◌, ◌<◌}
+use Prim.Native.Nat.{ℕ, zero, suc, ◌+◌, ◌^◌, ◌*◌, ◌≤◌, ◌<◌}
 use mathlib.Core.Path.{◌≡◌, subst}
 use mathlib.Core.Bool.{Bool, true, false, cond}
 use mathlib.Core.List.{List, [], ◌∷◌}
@@ -12,7 +12,6 @@ use Rattle.rules.specs.Agreement.{Alike}
 use Rattle.rules.specs.Bytes.{byte_of}
 use Rattle.rules.proofs.Agreement.{alike_self, alike-undefined, alike-wider}
 use Rattle.rules.proofs.ByteLaws.{alike-byte, alike-joined, alike-swiden}
-use Rattle.image.specs.Tests.{every}
 use Rattle.image.specs.declared.Width.{Width}
 use Rattle.image.specs.declared.Width.TheVariants.{Byte, Half, Word}
 use Rattle.image.specs.declared.Widening.{Widening}

@@ -1,5 +1,5 @@
 -- One step of the machine with its shadow (01, Shadow rules; half words and signed loads: 02, L1): what it does to the parts, and what it reports.
-use Rattle.std.specs.Prelude.{ℕ, Bool, true, false, cond, List, [], ◌∷◌, ◌++◌, get_or, set, eqb}
+use Rattle.std.specs.Prelude.{ℕ, Bool, false, cond, List, [], ◌∷◌, ◌++◌, get_or, set, eqb}
 use Rattle.rules.specs.Actions.{mov_of}
 use Rattle.rules.specs.Shadows.{mov_v}
 use Rattle.rules.specs.Operations.{action_of, shadow_of}
