@@ -45,6 +45,7 @@ fn steps_ok(c: Counts, budget: u32) -> bool
 }
 
 // Whether the A bytes are 0 or 1.
+#[tactic(auto, unfolding(machine::specs::Calls::marks_ok))]
 fn marks_ok(abits: &[u8]) -> bool
     ensures { result ≡ marks_ok abits.now }
 {

@@ -27,6 +27,7 @@ pub fn field(code: &[u8], index: u32, k: usize) -> u8
     code[INSTRUCTION * index as usize + k]
 }
 
+#[tactic(auto, unfolding(image::specs::Words::nth_word, rules::specs::Bytes::joined))]
 pub fn imm(code: &[u8], index: u32) -> u32
     requires { index < length code.now / instruction_size }
     ensures { ImmIs code.now index result }

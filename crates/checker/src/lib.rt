@@ -2,6 +2,7 @@
 // an A byte beside every byte. `begin` and `run` take any image, any state and buffers of any size,
 // check everything themselves, and equal `begin_answer` and `run_answer` of the crate `machine`.
 #![tactic(auto)]
+
 use image::Refusal;
 use rules::{Data, Shadow};
 

@@ -33,6 +33,7 @@ fn size_of(width: Width) -> usize
 }
 
 // The bytes of an access, zero-widened.
+#[tactic(auto, unfolding(rules::specs::Bytes::joined))]
 fn load_all(width: Width, s: &[u8], at: usize) -> u32
     requires { (at < 2 ^ 32) × (at + bytes_of width ≤ length s.now) }
     ensures { result ≡ loaded s.now at (bytes_of width) }
@@ -55,6 +56,7 @@ fn is_addressable(a: &[u8], at: usize) -> bool
 }
 
 // The A bytes of an access, all addressable, as a word.
+#[tactic(auto, unfolding(rules::specs::Bytes::joined))]
 fn all_marked(width: Width) -> u32
     ensures { result ≡ joined (bytes_of width) (λ k. addressable_mark) }
 {
@@ -138,6 +140,7 @@ pub fn widen(width: Width, widening: Widening, x: u32) -> u32
 
 // ---- what is written
 // The low bytes of x, to the bytes of an access.
+#[tactic(auto, unfolding(machine::specs::Ranges::written))]
 fn store_all(width: Width, x: u32, s: &mut [u8], at: usize)
     requires { (at < 2 ^ 32) × (at + bytes_of width ≤ length s.old) }
     ensures { s.new ≡ stored x s.old at (bytes_of width) }
