@@ -145,8 +145,7 @@ fn bits_of(answer: Answer) -> u32
 
 // ---- the calls
 // The version, for a program that loads the library while it runs. Its own name has none, and stays.
-#[unsafe(no_mangle)]
-pub extern "C" fn uviktalik_version() -> u32
+pub fn uviktalik_version() -> u32
     ensures { result ≡ version }
 {
     VERSION
@@ -154,8 +153,7 @@ pub extern "C" fn uviktalik_version() -> u32
 
 // Reads an image: M, N, R and D to header, where the code begins and how many bytes it has to code,
 // zeros when refused; the index at fault to fault. Returns 0 or the refusal's number.
-#[unsafe(no_mangle)]
-pub extern "C" fn uviktalik_read_2(
+pub fn uviktalik_read_2(
     image: &[u8],
     header: &mut [u32; 4],
     code: &mut [usize; 2],
@@ -174,8 +172,7 @@ pub extern "C" fn uviktalik_read_2(
 
 // Begins a program, as `checker::begin` does: the state's words to state, the index at fault to
 // fault. Returns 0 or the refusal's number.
-#[unsafe(no_mangle)]
-pub extern "C" fn uviktalik_begin_2(
+pub fn uviktalik_begin_2(
     image: &[u8],
     regs: &[u32; 16],
     mem: &mut [u8],
@@ -197,8 +194,7 @@ pub extern "C" fn uviktalik_begin_2(
 // Runs a program from a state, as `checker::run` does: the state's words are taken from state and
 // left there, the stop reason to reason, the index at fault to fault. Returns 0 or the refusal's
 // number.
-#[unsafe(no_mangle)]
-pub extern "C" fn uviktalik_run_2(
+pub fn uviktalik_run_2(
     image: &[u8],
     state: &mut [u32; STATE],
     mem: &mut [u8],
@@ -224,8 +220,7 @@ pub extern "C" fn uviktalik_run_2(
 
 // Writes an image, as `writer::write` does: how many bytes it has to size, 0 when refused, the index at
 // fault to fault. Returns 0 or the refusal's number.
-#[unsafe(no_mangle)]
-pub extern "C" fn uviktalik_write_2(
+pub fn uviktalik_write_2(
     m: u32,
     instructions: &[u32],
     regions: &[u32],
@@ -246,8 +241,7 @@ pub extern "C" fn uviktalik_write_2(
 // Hands an output that was made on as a damper command, as `commands::outputs::command` does: its kind
 // to kind, the bits of its rate, or the port if it is blocked, to bits, zeros when refused. Returns 0 or
 // the refusal's number.
-#[unsafe(no_mangle)]
-pub extern "C" fn uviktalik_command_2(
+pub fn uviktalik_command_2(
     outputs: &[u32],
     number: usize,
     kind: &mut u8,
