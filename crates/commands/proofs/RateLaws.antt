@@ -1,7 +1,6 @@
 -- What equals itself is a number, and what does not has the one pattern that the logic gives it.
-use Prim.Native.Nat.{ℕ}
-use mathlib.Core.Path.{◌≡◌, refl, ap, sym, ◌∙◌}
-use mathlib.Core.Bool.{Bool, true, false, not}
+use mathlib.Core.Path.{◌≡◌, ap, sym}
+use mathlib.Core.Bool.{true, false, not}
 use lib.Dec.{T}
 use lib.Ieee.{Float, nan, inf, fin, eq, ne, is_nan, binary32, to_bits}
 use lib.Ieee.Compare.{differs_from_itself}
