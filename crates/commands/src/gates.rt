@@ -25,6 +25,7 @@ const HIGHEST_PRELOAD: u32 = 0x4220_0000;
 const MINUS_ZERO: u32 = 0x8000_0000;
 
 // The bits of the highest rate of a port that has a gate. The lowest rate is 0 at each.
+#[tactic(auto, unfolding(crate::specs::ByBits::highest_bits))]
 fn highest_bits(port: u32) -> u32
     ensures { result ≡ highest_bits port }
 {
@@ -37,6 +38,7 @@ fn highest_bits(port: u32) -> u32
 
 // Whether a value passes the gate of its port: minus zero, and from 0 to the highest rate, ends
 // allowed. All else has higher bits than these: infinity, what is not a number, all that is below 0.
+#[tactic(auto, unfolding(crate::specs::ByBits::passes_by_bits))]
 fn passes(port: u32, value: u32) -> bool
     ensures { result ≡ passes_by_bits port value }
 {
@@ -44,6 +46,7 @@ fn passes(port: u32, value: u32) -> bool
 }
 
 // The command of a port that has a gate.
+#[tactic(auto, unfolding(crate::specs::Gates::command_with))]
 fn carrying(port: u32, rate: f32) -> Command
     ensures { result ≡ command_with port rate }
 {

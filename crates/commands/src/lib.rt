@@ -2,6 +2,7 @@
 // as blocked with its port. The list of outputs is only read. Every function that another crate can
 // call asks nothing, and equals a definition in specs/ or the logic's own.
 #![tactic(auto)]
+
 mod gates; // gates.rt: the gate of each port, and the command that two words make
 pub mod outputs; // outputs.rt: the command of one of the outputs made
 pub mod rates; // rates.rt: the bits of a rate

@@ -32,6 +32,7 @@ fn accepted(outputs: &[u32], number: usize) -> bool
 }
 
 // The command of output number `number`, from 0, or the refusal.
+#[tactic(auto, using(crate::proofs::ListLaws::in_list))]
 pub fn command(outputs: &[u32], number: usize) -> Answer
     ensures { CommandPromise outputs.now number result }
 {

@@ -20,6 +20,7 @@ pub fn put_word(out: &mut [u8], at: usize, w: u32)
 }
 
 // The bytes of some words.
+#[tactic(auto, unfolding(crate::specs::Words::bytes_of))]
 pub fn put_words(out: &mut [u8], at: usize, words: &[u32])
     requires { at + 4 * length words.now ≤ length out.old }
     ensures { out.new ≡ sets out.old at (bytes_of words.now) }

@@ -32,6 +32,7 @@ pub fn region_count(regions: &[u32]) -> usize
 }
 
 // Whether the lists have whole entries, and M, N, R and D keep their limits.
+#[tactic(auto, unfolding(crate::specs::Writing::counts_ok))]
 fn counts_ok(m: u32, instructions: &[u32], regions: &[u32], d: usize) -> bool
     ensures { result ≡ counts_ok m instructions.now regions.now d }
 {
@@ -58,6 +59,7 @@ fn instruction_ok(instructions: &[u32], i: usize, n: u32, m: u32) -> bool
 }
 
 // Refusal 5 at the first instruction that breaks its row.
+#[tactic(auto, unfolding(image::specs::Refusals::code_refusal))]
 fn check_instructions(instructions: &[u32], n: u32, m: u32) -> Refusal
     requires { length instructions.now ≡ instruction_words * n }
     ensures { result ≡ code_refusal (bytes_of instructions.now) n m }
@@ -87,6 +89,7 @@ fn region_in(regions: &[u32], i: usize) -> Region
 }
 
 // Refusal 6 at the first region that breaks the rules.
+#[tactic(auto, unfolding(image::specs::Refusals::region_refusal, image::specs::Regions::end_before))]
 fn check_regions(regions: &[u32], r: u32, m: u32) -> Refusal
     requires { length regions.now ≡ region_words * r }
     ensures { result ≡ region_refusal (bytes_of regions.now) r m }
@@ -121,6 +124,7 @@ fn filled_sum(regions: &[u32], r: u32) -> usize
 }
 
 // The first refusal that applies, in number order.
+#[tactic(auto, unfolding(crate::specs::Writing::write_refusal, crate::specs::Writing::entries_refusal))]
 pub fn check(m: u32, instructions: &[u32], regions: &[u32], d: usize, room: usize) -> Refusal
     ensures { result ≡ write_refusal m instructions.now regions.now d room }
 {

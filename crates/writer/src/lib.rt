@@ -3,6 +3,7 @@
 // and needs no room but the buffer that it is lent. The call is total and equals its definition in
 // specs/.
 #![tactic(auto)]
+
 ghost use Rattle.writer.specs.Promises.{WritePromise};
 
 use image::Refusal;
