@@ -1,18 +1,15 @@
 -- The outputs that the bare machine made are, as words, the first places of the checker's list; so they make the same commands.
-use Prim.Native.Nat.{ℕ, zero, suc, ◌+◌, ◌*◌, ◌≤◌, ◌<◌}
+use Prim.Native.Nat.{ℕ, zero, suc, ◌+◌, ◌*◌, ◌≤◌}
 use mathlib.Core.Path.{◌≡◌, refl, sym, ap, ◌∙◌}
 use mathlib.Core.List.{List, [], ◌∷◌, ◌++◌}
 use native.Mathlib.Numerals.{add-one}
 use native.Mathlib.Omega.{arith}
 use lib.ListN.{get_or, take}
 use lib.Seq.{take-suc}
-use Rattle.machine.specs.Machine.{World}
 use Rattle.machine.specs.Instructions.{Output, output}
 use Rattle.machine.specs.Lists.{output_size, output_places, outputs_in}
-use Rattle.machine.specs.Bare.{Bare}
-use Rattle.soundness.specs.Claim.{Together}
 use Rattle.commands.specs.Answers.{answer_of}
-use Rattle.assured.specs.Commands.{list_of, outputs_made, SameCommands, EqualCommands}
+use Rattle.assured.specs.Commands.{list_of, outputs_made, EqualCommands}
 
 -- the words of one output more
 one_more : (os : List Output) (o : Output) → list_of (os ++ (o ∷ [])) ≡ (list_of os ++ (o.port ∷ [])) ++ (o.value ∷ [])

@@ -5,6 +5,7 @@
 // are the symbols that a program is linked by; the version ends them, so that a program for another
 // version does not link.
 #![tactic(auto)]
+
 ghost use Rattle.std.specs.Prelude.{◌≡◌, ◌+◌, ◌≤◌, get_or};
 ghost use Rattle.image.specs.Format.{registers as registerCount, part_of};
 ghost use Rattle.machine.specs.Ranges.{written};
@@ -241,12 +242,7 @@ pub fn uviktalik_write_2(
 // Hands an output that was made on as a damper command, as `commands::outputs::command` does: its kind
 // to kind, the bits of its rate, or the port if it is blocked, to bits, zeros when refused. Returns 0 or
 // the refusal's number.
-pub fn uviktalik_command_2(
-    outputs: &[u32],
-    number: usize,
-    kind: &mut u8,
-    bits: &mut u32,
-) -> u8
+pub fn uviktalik_command_2(outputs: &[u32], number: usize, kind: &mut u8, bits: &mut u32) -> u8
     ensures { CommandPromise outputs.now number result kind.new bits.new }
 {
     let answer = outputs::command(outputs, number);
