@@ -7,7 +7,7 @@
  *   uviktalik_write    writes an image from memory's size, instructions, regions and data
  *   uviktalik_command  hands an output that was made on as a damper command, or as blocked
  *
- * `rt staticlib capi` proves and builds them into target/staticlib/libcapi.a. They need no other
+ * `tools/build capi` proves and builds them into target/staticlib/libcapi.a. They need no other
  * library but the C library's memset, allocate nothing and keep nothing between calls,
  * so threads may call at the same time, each with buffers of its own. examples/embed.c,
  * assemble.c and damper.c are whole programs.

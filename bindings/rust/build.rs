@@ -1,4 +1,4 @@
-//! Links the archive that `rt staticlib capi` builds: the one in UVIKTALIK_LIB_DIR, else this
+//! Links the archive that `tools/build capi` builds: the one in UVIKTALIK_LIB_DIR, else this
 //! repository's.
 
 use std::env;
@@ -16,7 +16,7 @@ fn main() {
     println!("cargo:rerun-if-changed={}", archive.display());
     if !archive.is_file() {
         eprintln!(
-            "{} is not there. `rt staticlib capi`, at the repository's root, proves it and builds \
+            "{} is not there. `tools/build capi`, at the repository's root, proves it and builds \
              it into target/staticlib; {FOLDER} names another folder that has it.",
             archive.display()
         );

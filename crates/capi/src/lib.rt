@@ -1,9 +1,9 @@
 // The checker for programs in other languages: reading, beginning, running, writing and damper
-// commands by C's calling convention, on numbers and lent buffers. Nothing is asked of the caller but
-// what the parameters' types say (include/uviktalik.h), and each call promises what the call of
-// `image`, `checker`, `writer` or `commands` of its name does, for every input. The functions' names
-// are the symbols that a program is linked by; the version ends them, so that a program for another
-// version does not link.
+// commands on numbers and lent buffers. Nothing is asked of the caller but what the parameters' types
+// say (include/uviktalik.h), and each call promises what the call of `image`, `checker`, `writer` or
+// `commands` of its name does, for every input. The crate `capi_c` exports the calls: their names are
+// the symbols that a program is linked by; the version ends them, so that a program for another version
+// does not link.
 #![tactic(auto)]
 
 ghost use Rattle.std.specs.Prelude.{◌≡◌, ◌+◌, ◌≤◌, get_or};

@@ -6,6 +6,9 @@ ghost use Rattle.std.specs.Prelude.{◌≡◌};
 ghost use Rattle.capi.specs.Words.{version};
 ghost use Rattle.capi.specs.Promises.{ReadPromise, BeginPromise, RunPromise, WritePromise, CommandPromise};
 
+// The words of a state.
+const STATE: usize = 36;
+
 #[unsafe(no_mangle)]
 pub extern "C" fn uviktalik_version() -> u32
     ensures { result ≡ version }
@@ -32,7 +35,7 @@ pub extern "C" fn uviktalik_begin_2(
     mem: &mut [u8],
     vbits: &mut [u8],
     abits: &mut [u8],
-    state: &mut [u32; 36],
+    state: &mut [u32; STATE],
     fault: &mut usize,
 ) -> u8
     ensures { BeginPromise image.now regs.now mem.old vbits.old abits.old result mem.new vbits.new abits.new state.new fault.new }
@@ -43,7 +46,7 @@ pub extern "C" fn uviktalik_begin_2(
 #[unsafe(no_mangle)]
 pub extern "C" fn uviktalik_run_2(
     image: &[u8],
-    state: &mut [u32; 36],
+    state: &mut [u32; STATE],
     mem: &mut [u8],
     vbits: &mut [u8],
     abits: &mut [u8],

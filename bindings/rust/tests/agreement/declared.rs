@@ -1,4 +1,4 @@
-//! What the binding declares and `capi` defines, read from their texts.
+//! What the binding declares and `capi_c` exports, read from their texts.
 
 use std::collections::BTreeMap;
 
@@ -100,7 +100,7 @@ fn lent(name: &str, kind: &str, numbers: &Numbers) -> Vec<(String, Passed)> {
     vec![(name.to_string(), Passed::Pointer { constant, element }), size]
 }
 
-/// The exported functions of crates/capi/src/lib.rt.
+/// The exported functions of crates/capi_c/src/lib.rt.
 pub fn by_capi(text: &str) -> Functions {
     let numbers = constants(text);
     let function = |Signature { name: symbol, parameters, answer, .. }| {

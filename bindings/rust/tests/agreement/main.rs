@@ -19,6 +19,7 @@ fn header() -> Header {
 }
 
 const CAPI: &str = "capi/src/lib.rt";
+const EXPORTS: &str = "capi_c/src/lib.rt";
 
 fn crate_text(file: &str) -> String {
     text_of(&format!("../../crates/{file}"))
@@ -43,7 +44,7 @@ fn every_number_of_the_header_is_the_bindings() {
 fn every_call_of_the_header_is_declared_so_by_the_binding_and_by_capi() {
     let header = header();
     let rust = declared::by_the_binding(include_str!("../../src/sys.rs"), &header.numbers);
-    let rattle = declared::by_capi(&crate_text(CAPI));
+    let rattle = declared::by_capi(&crate_text(EXPORTS));
     assert_eq!(header.functions.len(), 6);
     assert_eq!(header.functions, rust);
     assert_eq!(header.functions, rattle);
