@@ -20,6 +20,7 @@ mod running; // running.rt: the run
 mod step; // step.rt: what each group of instructions does
 
 pub use calls::{begin, run};
+pub use flat::limits; // the sizes of a run
 
 // The next instruction's index; how many steps were taken, outputs and reports made.
 #[derive(Clone, Copy)]
