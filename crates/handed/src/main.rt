@@ -1,14 +1,20 @@
 // Outputs handed on by the compiled code, a line each: what two words make, and what lists answer. The
 // file stdout beside src/ was worked out without this code, and the gate compares.
 #![tactic(auto)]
+
+use std::io;
+use std::io::{BufWriter, Write};
+
 mod cases; // cases.rt: the outputs and lists
 mod show; // show.rt: text, numbers and answers
 
-fn main() {
-    cases::ends();
-    cases::outside();
-    cases::ports();
-    cases::numbers();
-    cases::lists();
-    cases::sizes();
+fn main(rt: HostRuntime) -> io::Result<()> {
+    let mut out = BufWriter::new(rt.alloc(), rt.stdout())?;
+    cases::ends(&mut out)?;
+    cases::outside(&mut out)?;
+    cases::ports(&mut out)?;
+    cases::numbers(&mut out)?;
+    cases::lists(&mut out)?;
+    cases::sizes(&mut out)?;
+    out.flush()
 }

@@ -7,6 +7,8 @@ use super::{changes, series, words};
 use checker::Counts;
 use image::format;
 use rules::bytes::byte;
+use std::io;
+use std::io::Write;
 
 // The size of the image; what a call is lent; the series as it was kept, and as it is.
 #[derive(Clone, Copy)]
@@ -124,39 +126,45 @@ fn marked(d: Desk, x: [u32; 5]) -> Desk {
 }
 
 // t: the end, and the parts that are not as they were kept.
-fn told(d: Desk) {
+fn told(out: &mut impl Write, d: Desk) -> io::Result<()> {
     let a = d.kept;
     let b = d.now;
-    changes::end(b);
+    changes::end(out, b)?;
     if a.reason != b.reason && a.reason != 0 && b.reason != 0 {
-        text(b", reasons differ");
+        text(out, b", reasons differ")?;
     }
-    if words::tell_all(a, b) {
-        text(b", nothing differs");
+    if words::tell_all(out, a, b)? {
+        text(out, b", nothing differs")?;
     }
-    text(b"\n");
+    text(out, b"\n")
 }
 
 // Commands that show something: a line of text after a quote; d what has changed, a all.
-fn tell(d: Desk, letter: u8, line: &[u8]) {
+fn tell(out: &mut impl Write, d: Desk, letter: u8, line: &[u8]) -> io::Result<()> {
     match letter {
-        b'"' => text(format::part(line, 1, line.len())),
-        b't' => told(d),
-        b'd' => changes::all(d.kept, d.now, d.sizes, false),
-        b'a' => changes::all(d.kept, d.now, d.sizes, true),
-        _ => text(b""),
+        b'"' => text(out, format::part(line, 1, line.len())),
+        b't' => told(out, d),
+        b'd' => changes::all(out, d.kept, d.now, d.sizes, false),
+        b'a' => changes::all(out, d.kept, d.now, d.sizes, true),
+        _ => Ok(()),
     }
 }
 
 // Does what a line of so many bytes says.
-pub fn obey(d: Desk, image: &mut [u8; ROOM], room: &[u8; LINE], size: usize) -> Desk {
+pub fn obey(
+    out: &mut impl Write,
+    d: Desk,
+    image: &mut [u8; ROOM],
+    room: &[u8; LINE],
+    size: usize,
+) -> io::Result<Desk> {
     let line = format::part(room, 0, size);
     if line.len() == 0 {
-        return d;
+        return Ok(d);
     }
     let letter = line[0];
     let x = numbers(line);
-    match letter {
+    let next = match letter {
         b'h' => longer(d, image, line),
         b'z' => resized(d, x),
         b's' => lent(d, x),
@@ -169,8 +177,9 @@ pub fn obey(d: Desk, image: &mut [u8; ROOM], room: &[u8; LINE], size: usize) -> 
         b'c' => counted(d, x),
         b'm' => marked(d, x),
         _ => {
-            tell(d, letter, line);
+            tell(out, d, letter, line)?;
             d
         }
-    }
+    };
+    Ok(next)
 }

@@ -1,8 +1,10 @@
 // A script of programs, which the compiled checker begins and runs: it is read from standard input, the
 // file stdin beside src/. The file stdout was written by hand from the documents, and the gate compares.
 #![tactic(auto)]
-use libc::STDIN_FILENO;
+
 use numbers::LINE;
+use std::io;
+use std::io::{BufWriter, Read, Write};
 
 mod changes; // changes.rt: how a call ended, and what it changed
 mod desk; // desk.rt: the commands of the script
@@ -19,26 +21,22 @@ fn put(line: &mut [u8; LINE], at: usize, b: u8) {
     }
 }
 
-fn main() {
-    let mut script = [0u8; SCRIPT];
+fn main(rt: HostRuntime) -> io::Result<()> {
+    let mut script = Vec::with_capacity(rt.alloc(), SCRIPT)?;
     let mut image = [0u8; numbers::ROOM];
     let mut line = [0u8; LINE];
     let mut d = desk::empty();
     let mut n = 0usize;
-    let mut i = 0;
-    let size = io::read_full(STDIN_FILENO, &mut script);
-    while i < SCRIPT {
-        if size <= i {
-            return;
-        }
-        let b = script[i];
+    rt.stdin().take(SCRIPT as u64).read_to_end(&mut script)?;
+    let mut out = BufWriter::new(rt.alloc(), rt.stdout())?;
+    for &b in &script {
         if b == b'\n' {
-            d = desk::obey(d, &mut image, &line, n);
+            d = desk::obey(&mut out, d, &mut image, &line, n)?;
             n = 0;
         } else {
             put(&mut line, n, b);
             n = n % LINE + 1;
         }
-        i += 1;
     }
+    out.flush()
 }

@@ -23,15 +23,12 @@ fn longer(x: u32, b: u8) -> u32 {
 pub fn numbers(line: &[u8]) -> [u32; 5] {
     let mut found = [0u32; 5];
     let mut k = 4usize;
-    let mut i = 1;
-    while i < line.len() {
-        let b = line[i];
+    for &b in line.iter().skip(1) {
         if b == b' ' {
             k = k % 5 + 1;
         } else {
             found[k % 5] = longer(found[k % 5], b);
         }
-        i += 1;
     }
     found
 }
@@ -42,9 +39,7 @@ pub fn bytes(line: &[u8], image: &mut [u8; ROOM], from: usize) -> usize {
     let mut at = from;
     let mut high = 0u8;
     let mut odd = false;
-    let mut i = 1;
-    while i < line.len() {
-        let b = line[i];
+    for &b in line.iter().skip(1) {
         if b == b'#' {
             return at;
         }
@@ -57,7 +52,6 @@ pub fn bytes(line: &[u8], image: &mut [u8; ROOM], from: usize) -> usize {
             high = digit(b) << 4;
             odd = !odd;
         }
-        i += 1;
     }
     at
 }

@@ -235,10 +235,8 @@ pub fn large(image: &[u8], sizes: Sizes, budget: u32) -> Series {
 // So many runs, each with that budget.
 pub fn repeat(image: &[u8], begun: Series, sizes: Sizes, runs: u32, budget: u32) -> Series {
     let mut s = begun;
-    let mut i = 0u32;
-    while i < runs {
+    for _ in 0..runs {
         s = run(image, s, sizes, budget);
-        i += 1;
     }
     s
 }

@@ -1,20 +1,21 @@
 // Lines of text with numbers in them.
-use libc::STDOUT_FILENO;
+use std::io;
+use std::io::Write;
 
-pub fn text(s: &[u8]) {
-    io::write_all(STDOUT_FILENO, s);
+pub fn text(out: &mut impl Write, s: &[u8]) -> io::Result<()> {
+    out.write_all(s)
 }
 
 // The number for %, in decimal; for #, a word in hexadecimal; for $, a byte. Any other byte is itself.
-fn put(b: u8, x: u32) {
+fn put(out: &mut impl Write, b: u8, x: u32) -> io::Result<()> {
     if b == b'%' {
-        io::print_decimal(STDOUT_FILENO, x as u64);
+        write!(out, "{x}")
     } else if b == b'#' {
-        io::print_hex(STDOUT_FILENO, x as u64, 8);
+        write!(out, "{x:08x}")
     } else if b == b'$' {
-        io::print_hex(STDOUT_FILENO, x as u64, 2);
+        write!(out, "{x:02x}")
     } else {
-        text(&[b]);
+        text(out, &[b])
     }
 }
 
@@ -23,15 +24,13 @@ fn is_number(b: u8) -> bool {
 }
 
 // A text in which each %, # and $ stands for the next of five numbers.
-pub fn show(s: &[u8], x: [u32; 5]) {
+pub fn show(out: &mut impl Write, s: &[u8], x: [u32; 5]) -> io::Result<()> {
     let mut k = 0usize;
-    let mut i = 0;
-    while i < s.len() {
-        let b = s[i];
-        put(b, x[k % 5]);
+    for &b in s {
+        put(out, b, x[k % 5])?;
         if is_number(b) {
             k = k % 5 + 1;
         }
-        i += 1;
     }
+    Ok(())
 }

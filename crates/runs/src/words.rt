@@ -3,6 +3,8 @@ use super::series::{BYTES, OUTPUTS, REPORTS, Series};
 use super::show::text;
 use checker::Counts;
 use rules::{Data, Shadow};
+use std::io;
+use std::io::Write;
 
 // The parts: registers, their V words, the counts, memory with its V and A bytes, the lists.
 pub const REGS: u8 = 0;
@@ -107,39 +109,35 @@ pub fn differs(a: Series, b: Series, part: u8, i: usize) -> bool {
 
 // From that word of the part on.
 pub fn same(a: Series, b: Series, part: u8, from: usize) -> bool {
-    let mut i = from;
-    while i < MOST {
+    for i in from..MOST {
         if differs(a, b, part, i) {
             return false;
         }
-        i += 1;
     }
     true
 }
 
-fn tell(part: u8) {
+fn tell(out: &mut impl Write, part: u8) -> io::Result<()> {
     match part {
-        REGS => text(b", registers differ"),
-        REGS_V => text(b", V words differ"),
-        COUNTS => text(b", counts differ"),
-        MEM => text(b", memory bytes differ"),
-        MEM_V => text(b", V bytes differ"),
-        MEM_A => text(b", A bytes differ"),
-        REPORT_LIST => text(b", reports differ"),
-        _ => text(b", outputs differ"),
+        REGS => text(out, b", registers differ"),
+        REGS_V => text(out, b", V words differ"),
+        COUNTS => text(out, b", counts differ"),
+        MEM => text(out, b", memory bytes differ"),
+        MEM_V => text(out, b", V bytes differ"),
+        MEM_A => text(out, b", A bytes differ"),
+        REPORT_LIST => text(out, b", reports differ"),
+        _ => text(out, b", outputs differ"),
     }
 }
 
 // Names each part that differs; true where none does.
-pub fn tell_all(a: Series, b: Series) -> bool {
+pub fn tell_all(out: &mut impl Write, a: Series, b: Series) -> io::Result<bool> {
     let mut all = true;
-    let mut part = 0u8;
-    while part < PARTS {
+    for part in 0..PARTS {
         if !same(a, b, part, 0) {
-            tell(part);
+            tell(out, part)?;
             all = false;
         }
-        part += 1;
     }
-    all
+    Ok(all)
 }

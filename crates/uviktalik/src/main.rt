@@ -1,6 +1,7 @@
 // The checker as a program (document 01, The program): an image on standard input, reports, outputs and
 // the end on standard output. All that matters is in the crate `checker`.
 #![tactic(auto)]
+
 ghost use Rattle.std.specs.Prelude.{◌≡◌, length};
 ghost use Rattle.image.specs.Format.{most_m};
 
@@ -9,8 +10,9 @@ use flat::limits;
 use image::Refusal;
 use image::format::FRAME_REGISTER;
 use image::refusals::ACCEPTED;
-use libc::{STDIN_FILENO, STDOUT_FILENO};
 use rules::Data;
+use std::io;
+use std::io::{BufWriter, Read, Write};
 
 // One byte more than the largest image has: whatever is longer is refused as well.
 const INPUT: usize = image::format::LARGEST + 1;
@@ -31,75 +33,81 @@ fn zeros() -> [u8; MEMORY]
 }
 
 // A number in decimal, after a text.
-fn number(s: &[u8], n: u64) {
-    io::write_all(STDOUT_FILENO, s);
-    io::print_decimal(STDOUT_FILENO, n);
+fn number(out: &mut impl Write, s: &[u8], n: u64) -> io::Result<()> {
+    out.write_all(s)?;
+    write!(out, "{n}")
 }
 
-fn end_line() {
-    io::write_all(STDOUT_FILENO, b"\n");
+fn end_line(out: &mut impl Write) -> io::Result<()> {
+    out.write_all(b"\n")
 }
 
-fn show_refusal(refusal: Refusal) {
-    number(b"refused ", refusal.number as u64);
-    number(b" at ", refusal.index as u64);
-    end_line();
+fn show_refusal(out: &mut impl Write, refusal: Refusal) -> io::Result<()> {
+    number(out, b"refused ", refusal.number as u64)?;
+    number(out, b" at ", refusal.index as u64)?;
+    end_line(out)
 }
 
-fn show_report(steps: u32, index: u32, kind: u32, detail: u32) {
-    number(b"step ", steps as u64);
-    number(b" at ", index as u64);
-    number(b" kind ", kind as u64);
-    number(b" detail ", detail as u64);
-    end_line();
+fn show_report(
+    out: &mut impl Write,
+    steps: u32,
+    index: u32,
+    kind: u32,
+    detail: u32,
+) -> io::Result<()> {
+    number(out, b"step ", steps as u64)?;
+    number(out, b" at ", index as u64)?;
+    number(out, b" kind ", kind as u64)?;
+    number(out, b" detail ", detail as u64)?;
+    end_line(out)
 }
 
-fn show_output(port: u32, value: u32) {
-    number(b"out port ", port as u64);
-    number(b" value ", value as u64);
-    end_line();
+fn show_output(out: &mut impl Write, port: u32, value: u32) -> io::Result<()> {
+    number(out, b"out port ", port as u64)?;
+    number(out, b" value ", value as u64)?;
+    end_line(out)
 }
 
 // The reports that have a place.
-fn show_reports(count: usize, reports: &[u32; REPORTS]) {
-    let mut k = 0;
-    while k < limits::MOST_REPORTS {
-        if count <= k {
-            return;
-        }
+fn show_reports(out: &mut impl Write, count: usize, reports: &[u32; REPORTS]) -> io::Result<()> {
+    for k in 0..count.min(limits::MOST_REPORTS) {
         let at = limits::REPORT * k;
         show_report(
+            out,
             reports[at],
             reports[at + 1],
             reports[at + 2],
             reports[at + 3],
-        );
-        k += 1;
+        )?;
     }
+    Ok(())
 }
 
-fn show_outputs(count: usize, outputs: &[u32; OUTPUTS]) {
-    let mut k = 0;
-    while k < limits::MOST_OUTPUTS {
-        if count <= k {
-            return;
-        }
+fn show_outputs(out: &mut impl Write, count: usize, outputs: &[u32; OUTPUTS]) -> io::Result<()> {
+    for k in 0..count.min(limits::MOST_OUTPUTS) {
         let at = limits::OUTPUT * k;
-        show_output(outputs[at], outputs[at + 1]);
-        k += 1;
+        show_output(out, outputs[at], outputs[at + 1])?;
     }
+    Ok(())
 }
 
-fn show_end(reason: u8, c: Counts) {
-    number(b"end ", reason as u64);
-    number(b" steps ", c.steps as u64);
-    number(b" reports ", c.reports as u64);
-    number(b" outputs ", c.outputs as u64);
-    end_line();
+fn show_end(out: &mut impl Write, reason: u8, c: Counts) -> io::Result<()> {
+    number(out, b"end ", reason as u64)?;
+    number(out, b" steps ", c.steps as u64)?;
+    number(out, b" reports ", c.reports as u64)?;
+    number(out, b" outputs ", c.outputs as u64)?;
+    end_line(out)
 }
 
 // Runs a program that was begun, and shows what came of it.
-fn run(image: &[u8], state: State, mem: &mut [u8], vbits: &mut [u8], abits: &mut [u8]) {
+fn run(
+    out: &mut impl Write,
+    image: &[u8],
+    state: State,
+    mem: &mut [u8],
+    vbits: &mut [u8],
+    abits: &mut [u8],
+) -> io::Result<()> {
     let mut reports = [0; REPORTS];
     let mut outputs = [0; OUTPUTS];
     let budget = limits::MOST_STEPS;
@@ -115,43 +123,51 @@ fn run(image: &[u8], state: State, mem: &mut [u8], vbits: &mut [u8], abits: &mut
     );
     let refusal = ran.refusal;
     if refusal.number != ACCEPTED {
-        show_refusal(refusal);
-        return;
+        return show_refusal(out, refusal);
     }
     let end = ran.state;
     let c = end.counts;
-    show_reports(c.reports as usize, &reports);
-    show_outputs(c.outputs as usize, &outputs);
-    show_end(ran.reason, c);
+    show_reports(out, c.reports as usize, &reports)?;
+    show_outputs(out, c.outputs as usize, &outputs)?;
+    show_end(out, ran.reason, c)
 }
 
 // Begins and runs a program with M bytes of memory, all of them zeros, and register 15 equal to M.
-fn check(image: &[u8], m: u32, mem: &mut [u8], vbits: &mut [u8], abits: &mut [u8]) {
+fn check(
+    out: &mut impl Write,
+    image: &[u8],
+    m: u32,
+    mem: &mut [u8],
+    vbits: &mut [u8],
+    abits: &mut [u8],
+) -> io::Result<()> {
     let mut regs = [Data(0); 16];
     regs[FRAME_REGISTER] = Data(m);
     let began = checker::begin(image, regs, mem, vbits, abits);
     let refusal = began.refusal;
     if refusal.number != ACCEPTED {
-        show_refusal(refusal);
-        return;
+        return show_refusal(out, refusal);
     }
-    run(image, began.state, mem, vbits, abits);
+    run(out, image, began.state, mem, vbits, abits)
 }
 
-fn main() {
-    let mut input = [0u8; INPUT];
+#[tactic(auto, using(crate::proofs::Memory::memory))]
+fn main(rt: HostRuntime) -> io::Result<()> {
+    let mut input = Vec::with_capacity(rt.alloc(), INPUT)?;
     let mut mem = zeros();
     let mut vbits = zeros();
     let mut abits = zeros();
-    let size = io::read_full(STDIN_FILENO, &mut input);
-    let image = &input[..size];
-    let found = image::read(image);
+    rt.stdin().take(INPUT as u64).read_to_end(&mut input)?;
+    let found = image::read(&input);
     let m = found.m as usize;
+    let mut out = BufWriter::new(rt.alloc(), rt.stdout())?;
     check(
-        image,
+        &mut out,
+        &input,
         found.m,
         &mut mem[..m],
         &mut vbits[..m],
         &mut abits[..m],
-    );
+    )?;
+    out.flush()
 }

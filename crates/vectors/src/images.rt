@@ -3,29 +3,31 @@
 use super::rows;
 use super::show::{number, text};
 use image::Region;
+use std::io;
+use std::io::Write;
 
 // Document 01's example, 76 bytes, and one byte more.
 const SAMPLE: [u8; 77] =
     *b"TUN1\x10\0\0\0\x04\0\0\0\x20\0\0\0\x01\0\0\0\x40\0\0\0\0\0\0\0\x4c\0\0\0\x01\0\0\xff\x08\0\0\0\x0e\x01\0\0\0\0\0\0\x12\0\x01\0\x02\0\0\0\0\0\0\0\0\0\0\0\x08\0\0\0\x04\0\0\0\x02\0\0\0\0";
 
-fn read(name: &[u8], image: &[u8]) {
+fn read(out: &mut impl Write, name: &[u8], image: &[u8]) -> io::Result<()> {
     let found = image::read(image);
     let refusal = found.refusal;
     let code = image::code(image);
-    text(name);
-    number(b": refusal ", refusal.number as usize);
-    number(b" at ", refusal.index);
-    number(b", M ", found.m as usize);
-    number(b" N ", found.n as usize);
-    number(b" R ", found.r as usize);
-    number(b" D ", found.d as usize);
-    number(b", code ", code.len());
-    text(b"\n");
+    text(out, name)?;
+    number(out, b": refusal ", refusal.number as usize)?;
+    number(out, b" at ", refusal.index)?;
+    number(out, b", M ", found.m as usize)?;
+    number(out, b" N ", found.n as usize)?;
+    number(out, b" R ", found.r as usize)?;
+    number(out, b" D ", found.d as usize)?;
+    number(out, b", code ", code.len())?;
+    text(out, b"\n")
 }
 
 // The same of the first bytes of a buffer.
-fn read_front(name: &[u8], buffer: &[u8], size: usize) {
-    read(name, image::format::part(buffer, 0, size));
+fn read_front(out: &mut impl Write, name: &[u8], buffer: &[u8], size: usize) -> io::Result<()> {
+    read(out, name, image::format::part(buffer, 0, size))
 }
 
 fn put(image: &mut [u8], at: usize, b: u8) {
@@ -130,20 +132,20 @@ const CONTENT: [Change; CHANGED - CONTENT_FROM] = [
     Change(64, 13, 72, 1), // 6 and 7
 ];
 
-fn byte(s: &[u8], at: u8, b: u8) {
-    number(s, at as usize);
-    number(b" is ", b as usize);
+fn byte(out: &mut impl Write, s: &[u8], at: u8, b: u8) -> io::Result<()> {
+    number(out, s, at as usize)?;
+    number(out, b" is ", b as usize)
 }
 
-fn read_changed(c: Change) {
+fn read_changed(out: &mut impl Write, c: Change) -> io::Result<()> {
     let mut image = SAMPLE;
     put(&mut image, c.0 as usize, c.1);
     put(&mut image, c.2 as usize, c.3);
-    byte(b"byte ", c.0, c.1);
+    byte(out, b"byte ", c.0, c.1)?;
     if c.0 != c.2 {
-        byte(b", byte ", c.2, c.3);
+        byte(out, b", byte ", c.2, c.3)?;
     }
-    read_front(b"", &image, 76);
+    read_front(out, b"", &image, 76)
 }
 
 // Row i of both; beyond them the first.
@@ -157,51 +159,54 @@ fn row(i: usize) -> Change {
     }
 }
 
-pub fn changes() {
-    let mut i = 0;
-    while i < CHANGED {
-        read_changed(row(i));
-        i += 1;
+pub fn changes(out: &mut impl Write) -> io::Result<()> {
+    for i in 0..CHANGED {
+        read_changed(out, row(i))?;
     }
+    Ok(())
 }
 
 // The four instructions of the example, from the code that the reader hands back.
-pub fn code() {
+pub fn code(out: &mut impl Write) -> io::Result<()> {
     let code = image::code(&SAMPLE[..76]);
-    rows::decoded(image::decode(code, 0, 4, 16));
-    rows::decoded(image::decode(code, 1, 4, 16));
-    rows::decoded(image::decode(code, 2, 4, 16));
-    rows::decoded(image::decode(code, 3, 4, 16));
+    rows::decoded(out, image::decode(code, 0, 4, 16))?;
+    rows::decoded(out, image::decode(code, 1, 4, 16))?;
+    rows::decoded(out, image::decode(code, 2, 4, 16))?;
+    rows::decoded(out, image::decode(code, 3, 4, 16))
 }
 
-fn region(name: &[u8], r: Region) {
-    three(name, r.start, r.size, r.kind);
-    text(b"\n");
+fn region(out: &mut impl Write, name: &[u8], r: Region) -> io::Result<()> {
+    three(out, name, r.start, r.size, r.kind)?;
+    text(out, b"\n")
 }
 
 // The parts of the example and its region; the next region is past the end.
-pub fn parts() {
+pub fn parts(out: &mut impl Write) -> io::Result<()> {
     let image = &SAMPLE[..76];
     let regions = image::format::region_part(image, 4, 1);
-    number(b"parts of ", image::format::code_part(image, 4).len());
-    number(b", ", regions.len());
-    number(b" and ", image::format::data_part(image, 4, 1, 0).len());
-    number(b" bytes, the largest image ", image::format::LARGEST);
-    text(b"\n");
-    region(b"region 0: ", image::region_at(regions, 0));
-    region(b"region 1: ", image::region_at(regions, 1));
+    number(out, b"parts of ", image::format::code_part(image, 4).len())?;
+    number(out, b", ", regions.len())?;
+    number(
+        out,
+        b" and ",
+        image::format::data_part(image, 4, 1, 0).len(),
+    )?;
+    number(out, b" bytes, the largest image ", image::format::LARGEST)?;
+    text(out, b"\n")?;
+    region(out, b"region 0: ", image::region_at(regions, 0))?;
+    region(out, b"region 1: ", image::region_at(regions, 1))
 }
 
-pub fn sample() {
-    read(b"the example", &SAMPLE[..76]);
-    read(b"one byte more", &SAMPLE);
-    read(b"no bytes", &SAMPLE[..0]);
-    read(b"its first 31 bytes", &SAMPLE[..31]);
-    read(b"its first 32 bytes", &SAMPLE[..32]);
-    read(b"its first 75 bytes", &SAMPLE[..75]);
+pub fn sample(out: &mut impl Write) -> io::Result<()> {
+    read(out, b"the example", &SAMPLE[..76])?;
+    read(out, b"one byte more", &SAMPLE)?;
+    read(out, b"no bytes", &SAMPLE[..0])?;
+    read(out, b"its first 31 bytes", &SAMPLE[..31])?;
+    read(out, b"its first 32 bytes", &SAMPLE[..32])?;
+    read(out, b"its first 75 bytes", &SAMPLE[..75])?;
     let zeros = [0u8; 32];
-    read(b"31 zeros", &zeros[..31]);
-    read(b"32 zeros", &zeros);
+    read(out, b"31 zeros", &zeros[..31])?;
+    read(out, b"32 zeros", &zeros)
 }
 
 // Start, length and kind of two regions, and D.
@@ -230,10 +235,10 @@ const PAIRS: [Pair; PAIRED] = [
     Pair(0, 8, 2, 8, 4, 1, 4),
 ];
 
-fn three(s: &[u8], start: u32, size: u32, kind: u32) {
-    number(s, start as usize);
-    number(b" ", size as usize);
-    number(b" ", kind as usize);
+fn three(out: &mut impl Write, s: &[u8], start: u32, size: u32, kind: u32) -> io::Result<()> {
+    number(out, s, start as usize)?;
+    number(out, b" ", size as usize)?;
+    number(out, b" ", kind as usize)
 }
 
 // One instruction, STOP, and two regions, with 64 bytes of memory.
@@ -246,112 +251,120 @@ fn put_pair(image: &mut [u8], p: Pair) {
 }
 
 // The image of two regions and of D zeros.
-fn read_pair(p: Pair) {
+fn read_pair(out: &mut impl Write, p: Pair) -> io::Result<()> {
     let d = p.6 as usize;
     let mut image = [0u8; 319];
     put_pair(&mut image, p);
-    three(b"regions ", p.0, p.1, p.2);
-    three(b", ", p.3, p.4, p.5);
-    number(b", D ", d);
-    read_front(b"", &image, 64 + d);
+    three(out, b"regions ", p.0, p.1, p.2)?;
+    three(out, b", ", p.3, p.4, p.5)?;
+    number(out, b", D ", d)?;
+    read_front(out, b"", &image, 64 + d)
 }
 
-pub fn pairs() {
-    let mut i = 0;
-    while i < PAIRED {
-        read_pair(PAIRS[i]);
-        i += 1;
+pub fn pairs(out: &mut impl Write) -> io::Result<()> {
+    for p in PAIRS {
+        read_pair(out, p)?;
     }
+    Ok(())
 }
 
 // An image of one instruction and nothing else.
-fn one(name: &[u8], m: u32, op: u8, imm: u32) {
+fn one(out: &mut impl Write, name: &[u8], m: u32, op: u8, imm: u32) -> io::Result<()> {
     let mut image = [0u8; 40];
     put_magic(&mut image);
     put_counts(&mut image, m, 1, 0, 0);
     put_offsets(&mut image, 32, 40, 40);
     put(&mut image, 32, op);
     put_word(&mut image, 36, imm);
-    read(name, &image);
+    read(out, name, &image)
 }
 
-pub fn ranges() {
-    one(b"OPEN 8 to 16, which is M", 16, 19, 0x0008_0008);
-    one(b"OPEN 8 to 17", 16, 19, 0x0009_0008);
-    one(b"CLOSE 0 to 16", 16, 20, 0x0010_0000);
-    one(b"CLOSE 1 to 17", 16, 20, 0x0010_0001);
-    one(b"JNZ 0 of 1", 16, 17, 0);
-    one(b"JNZ 1 of 1", 16, 17, 1);
-    one(b"OPEN 4096 to 8192, which is M", 8_192, 19, 0x1000_1000);
-    one(b"OPEN 4096 to 8193", 8_192, 19, 0x1001_1000);
-    one(b"CLOSE 0 to 8192", 8_192, 20, 0x2000_0000);
-    one(b"CLOSE 1 to 8193", 8_192, 20, 0x2000_0001);
+pub fn ranges(out: &mut impl Write) -> io::Result<()> {
+    one(out, b"OPEN 8 to 16, which is M", 16, 19, 0x0008_0008)?;
+    one(out, b"OPEN 8 to 17", 16, 19, 0x0009_0008)?;
+    one(out, b"CLOSE 0 to 16", 16, 20, 0x0010_0000)?;
+    one(out, b"CLOSE 1 to 17", 16, 20, 0x0010_0001)?;
+    one(out, b"JNZ 0 of 1", 16, 17, 0)?;
+    one(out, b"JNZ 1 of 1", 16, 17, 1)?;
+    one(
+        out,
+        b"OPEN 4096 to 8192, which is M",
+        8_192,
+        19,
+        0x1000_1000,
+    )?;
+    one(out, b"OPEN 4096 to 8193", 8_192, 19, 0x1001_1000)?;
+    one(out, b"CLOSE 0 to 8192", 8_192, 20, 0x2000_0000)?;
+    one(out, b"CLOSE 1 to 8193", 8_192, 20, 0x2000_0001)
 }
 
 // 32 filled regions of that size, one behind the other, the first one's words from that place on.
 fn put_regions(image: &mut [u8], at: u16, size: u32) {
     let mut start = 0u32;
-    let mut i = 0u8;
-    while i < 32 {
+    for i in 0..32u8 {
         let place = std::num::wrapping_add_u16(at, 12 * (i as u16));
         put_region(image, place, start, size, 1);
         start = std::num::wrapping_add_u32(start, size);
-        i += 1;
     }
 }
 
 // STOP 512 times, 32 regions, and 4,096 bytes of data.
-pub fn long() {
+pub fn long(out: &mut impl Write) -> io::Result<()> {
     let mut image = [0u8; 8_609];
     put_magic(&mut image);
     put_counts(&mut image, 4_096, 512, 32, 4_096);
     put_offsets(&mut image, 32, 4_128, 4_512);
     put_regions(&mut image, 4_128, 128);
-    read_front(b"8608 bytes", &image, 8_608);
-    read_front(b"8609 bytes", &image, 8_609);
-    read_front(b"8607 bytes", &image, 8_607);
+    read_front(out, b"8608 bytes", &image, 8_608)?;
+    read_front(out, b"8609 bytes", &image, 8_609)?;
+    read_front(out, b"8607 bytes", &image, 8_607)?;
     put(&mut image, 4_120, 25);
-    read_front(b"8608 bytes, instruction 511 at fault", &image, 8_608);
+    read_front(out, b"8608 bytes, instruction 511 at fault", &image, 8_608)?;
     put(&mut image, 4_120, 0);
     put(&mut image, 4_508, 3);
-    read_front(b"8608 bytes, region 31 at fault", &image, 8_608);
+    read_front(out, b"8608 bytes, region 31 at fault", &image, 8_608)?;
     put(&mut image, 4_508, 2);
-    read_front(b"8608 bytes, region 31 not filled", &image, 8_608);
+    read_front(out, b"8608 bytes, region 31 not filled", &image, 8_608)
 }
 
 // As many of each as there may be: STOP 2,048 times, 32 regions, and 8,192 bytes of data.
-pub fn largest() {
+pub fn largest(out: &mut impl Write) -> io::Result<()> {
     let mut image = [0u8; 24_993];
     put_magic(&mut image);
     put_counts(&mut image, 8_192, 2_048, 32, 8_192);
     put_offsets(&mut image, 32, 16_416, 16_800);
     put_regions(&mut image, 16_416, 256);
-    read_front(b"24992 bytes", &image, 24_992);
-    read_front(b"24993 bytes", &image, 24_993);
-    read_front(b"24991 bytes", &image, 24_991);
+    read_front(out, b"24992 bytes", &image, 24_992)?;
+    read_front(out, b"24993 bytes", &image, 24_993)?;
+    read_front(out, b"24991 bytes", &image, 24_991)?;
     put(&mut image, 16_408, 25);
-    read_front(b"24992 bytes, instruction 2047 at fault", &image, 24_992);
+    read_front(
+        out,
+        b"24992 bytes, instruction 2047 at fault",
+        &image,
+        24_992,
+    )?;
     put(&mut image, 16_408, 0);
     put(&mut image, 16_796, 3);
-    read_front(b"24992 bytes, region 31 at fault", &image, 24_992);
+    read_front(out, b"24992 bytes, region 31 at fault", &image, 24_992)?;
     put(&mut image, 16_796, 2);
-    read_front(b"24992 bytes, region 31 not filled", &image, 24_992);
+    read_front(out, b"24992 bytes, region 31 not filled", &image, 24_992)
 }
 
 // Instructions alone: 512 and one more, as many as there may be and one more.
-pub fn longest_code() {
+pub fn longest_code(out: &mut impl Write) -> io::Result<()> {
     let mut image = [0u8; 16_424];
     put_magic(&mut image);
     put_counts(&mut image, 1, 512, 0, 0);
     put_offsets(&mut image, 32, 4_128, 4_128);
-    read_front(b"N 512 and nothing else", &image, 4_128);
+    read_front(out, b"N 512 and nothing else", &image, 4_128)?;
     put_counts(&mut image, 1, 513, 0, 0);
     put_offsets(&mut image, 32, 4_136, 4_136);
-    read_front(b"N 513 and nothing else", &image, 4_136);
+    read_front(out, b"N 513 and nothing else", &image, 4_136)?;
     put_counts(&mut image, 1, 2_048, 0, 0);
     put_offsets(&mut image, 32, 16_416, 16_416);
-    read_front(b"N 2048 and nothing else", &image, 16_416);
+    read_front(out, b"N 2048 and nothing else", &image, 16_416)?;
     put_counts(&mut image, 1, 2_049, 0, 0);
     put_offsets(&mut image, 32, 16_424, 16_424);
-    read_front(b"N 2049 and nothing else", &image, 16_424);
+    read_front(out, b"N 2049 and nothing else", &image, 16_424)
 }

@@ -1,23 +1,29 @@
 // Cases of the documents and our own, run by the compiled code, one line each. The file stdout beside
 // src/ was written by hand from the documents, and the gate compares.
 #![tactic(auto)]
+
+use std::io;
+use std::io::{BufWriter, Write};
+
 mod images; // images.rt: images, and what the reader answers
 mod rows; // rows.rt: instructions, and what they decode to
 mod show; // show.rt: text, words and numbers
 mod words; // words.rt: operations on words
 
-fn main() {
-    words::table();
-    words::others();
-    rows::table();
-    rows::ends();
-    images::code();
-    images::parts();
-    images::sample();
-    images::changes();
-    images::pairs();
-    images::ranges();
-    images::long();
-    images::largest();
-    images::longest_code();
+fn main(rt: HostRuntime) -> io::Result<()> {
+    let mut out = BufWriter::new(rt.alloc(), rt.stdout())?;
+    words::table(&mut out)?;
+    words::others(&mut out)?;
+    rows::table(&mut out)?;
+    rows::ends(&mut out)?;
+    images::code(&mut out)?;
+    images::parts(&mut out)?;
+    images::sample(&mut out)?;
+    images::changes(&mut out)?;
+    images::pairs(&mut out)?;
+    images::ranges(&mut out)?;
+    images::long(&mut out)?;
+    images::largest(&mut out)?;
+    images::longest_code(&mut out)?;
+    out.flush()
 }

@@ -2,79 +2,81 @@
 use super::show::{number, text, word};
 use image::{Decoded, Instruction, Operand, Widening, Width};
 use rules::Operation;
+use std::io;
+use std::io::Write;
 
 const N: u32 = 4;
 
 const M: u32 = 16;
 
-pub fn name(op: Operation) {
+pub fn name(out: &mut impl Write, op: Operation) -> io::Result<()> {
     match op {
-        Operation::Add => text(b"ADD"),
-        Operation::Sub => text(b"SUB"),
-        Operation::Mul => text(b"MUL"),
-        Operation::And => text(b"AND"),
-        Operation::Or => text(b"OR"),
-        Operation::Xor => text(b"XOR"),
-        Operation::Shl => text(b"SHL"),
-        Operation::Shr => text(b"SHR"),
-        Operation::Sar => text(b"SAR"),
-        Operation::Eq => text(b"EQ"),
-        Operation::Ltu => text(b"LTU"),
+        Operation::Add => text(out, b"ADD"),
+        Operation::Sub => text(out, b"SUB"),
+        Operation::Mul => text(out, b"MUL"),
+        Operation::And => text(out, b"AND"),
+        Operation::Or => text(out, b"OR"),
+        Operation::Xor => text(out, b"XOR"),
+        Operation::Shl => text(out, b"SHL"),
+        Operation::Shr => text(out, b"SHR"),
+        Operation::Sar => text(out, b"SAR"),
+        Operation::Eq => text(out, b"EQ"),
+        Operation::Ltu => text(out, b"LTU"),
     }
 }
 
-fn operand(b: Operand) {
+fn operand(out: &mut impl Write, b: Operand) -> io::Result<()> {
     match b {
-        Operand::Register(r) => number(b" register ", r as usize),
-        Operand::Literal(x) => word(b" literal ", x.0),
+        Operand::Register(r) => number(out, b" register ", r as usize),
+        Operand::Literal(x) => word(out, b" literal ", x.0),
     }
 }
 
-fn width(w: Width) {
+fn width(out: &mut impl Write, w: Width) -> io::Result<()> {
     match w {
-        Width::Byte => text(b"8"),
-        Width::Half => text(b"16"),
-        Width::Word => text(b"32"),
+        Width::Byte => text(out, b"8"),
+        Width::Half => text(out, b"16"),
+        Width::Word => text(out, b"32"),
     }
 }
 
-fn load(widening: Widening) {
+fn load(out: &mut impl Write, widening: Widening) -> io::Result<()> {
     match widening {
-        Widening::Zero => text(b"LD"),
-        Widening::Sign => text(b"LDS"),
+        Widening::Zero => text(out, b"LD"),
+        Widening::Sign => text(out, b"LDS"),
     }
 }
 
 // The rest of a load or store.
-fn access(w: Width, d: u8, a: u8, imm: u32) {
-    width(w);
-    number(b" d ", d as usize);
-    number(b" a ", a as usize);
-    word(b" imm ", imm);
+fn access(out: &mut impl Write, w: Width, d: u8, a: u8, imm: u32) -> io::Result<()> {
+    width(out, w)?;
+    number(out, b" d ", d as usize)?;
+    number(out, b" a ", a as usize)?;
+    word(out, b" imm ", imm)
 }
 
-fn mark(addressable: bool, start: u32, size: u32) {
+fn mark(out: &mut impl Write, addressable: bool, start: u32, size: u32) -> io::Result<()> {
     if addressable {
-        text(b"OPEN");
+        text(out, b"OPEN")?;
     } else {
-        text(b"CLOSE");
+        text(out, b"CLOSE")?;
     }
-    number(b" start ", start as usize);
-    number(b" length ", size as usize);
+    number(out, b" start ", start as usize)?;
+    number(out, b" length ", size as usize)
 }
 
-fn instruction(i: Instruction) {
+fn instruction(out: &mut impl Write, i: Instruction) -> io::Result<()> {
     match i {
-        Instruction::Stop => text(b"STOP"),
+        Instruction::Stop => text(out, b"STOP"),
         Instruction::Move { d, b } => {
-            number(b"MOV d ", d as usize);
-            operand(b);
+            number(out, b"MOV d ", d as usize)?;
+            operand(out, b)
         }
         Instruction::Compute { op, d, a, b } => {
-            name(op);
-            number(b" d ", d as usize);
-            number(b" a ", a as usize);
-            operand(b);
+            name(out, op)?;
+            number(out, b" d ", d as usize)?;
+            number(out, b" a ", a as usize)?;
+            operand(out, b)
         }
         Instruction::Load {
             width: w,
@@ -83,8 +85,8 @@ fn instruction(i: Instruction) {
             a,
             imm,
         } => {
-            load(widening);
-            access(w, d, a, imm);
+            load(out, widening)?;
+            access(out, w, d, a, imm)
         }
         Instruction::Store {
             width: w,
@@ -92,31 +94,31 @@ fn instruction(i: Instruction) {
             a,
             imm,
         } => {
-            text(b"ST");
-            access(w, d, a, imm);
+            text(out, b"ST")?;
+            access(out, w, d, a, imm)
         }
         Instruction::Jump { a, target } => {
-            number(b"JNZ a ", a as usize);
-            number(b" to ", target as usize);
+            number(out, b"JNZ a ", a as usize)?;
+            number(out, b" to ", target as usize)
         }
         Instruction::Emit { a, port } => {
-            number(b"EMIT a ", a as usize);
-            number(b" port ", port as usize);
+            number(out, b"EMIT a ", a as usize)?;
+            number(out, b" port ", port as usize)
         }
         Instruction::Mark {
             addressable,
             start,
             size,
-        } => mark(addressable, start, size),
+        } => mark(out, addressable, start, size),
     }
 }
 
-pub fn decoded(x: Decoded) {
+pub fn decoded(out: &mut impl Write, x: Decoded) -> io::Result<()> {
     match x {
-        Decoded::Valid(i) => instruction(i),
-        Decoded::Fault(i) => number(b"fault at ", i),
+        Decoded::Valid(i) => instruction(out, i)?,
+        Decoded::Fault(i) => number(out, b"fault at ", i)?,
     }
-    text(b"\n");
+    text(out, b"\n")
 }
 
 // How many rows the first table has, the first two, and all three. There are several, as a check takes
@@ -257,7 +259,7 @@ fn fields_at(i: usize) -> Fields {
 }
 
 // Index 1 of an image of 4 instructions and 16 bytes of memory.
-fn row(f: Fields) {
+fn row(out: &mut impl Write, f: Fields) -> io::Result<()> {
     let imm = f.4;
     let mut code = [0u8; 16];
     code[8] = f.0;
@@ -268,34 +270,33 @@ fn row(f: Fields) {
     code[13] = rules::bytes::byte(imm, 1);
     code[14] = rules::bytes::byte(imm, 2);
     code[15] = rules::bytes::byte(imm, 3);
-    number(b"", f.0 as usize);
-    number(b" ", f.1 as usize);
-    number(b" ", f.2 as usize);
-    number(b" ", f.3 as usize);
-    word(b" ", imm);
-    text(b": ");
-    decoded(image::decode(&code, 1, N, M));
+    number(out, b"", f.0 as usize)?;
+    number(out, b" ", f.1 as usize)?;
+    number(out, b" ", f.2 as usize)?;
+    number(out, b" ", f.3 as usize)?;
+    word(out, b" ", imm)?;
+    text(out, b": ")?;
+    decoded(out, image::decode(&code, 1, N, M))
 }
 
-pub fn table() {
-    let mut i = 0;
-    while i < CASES {
-        row(fields_at(i));
-        i += 1;
+pub fn table(out: &mut impl Write) -> io::Result<()> {
+    for i in 0..CASES {
+        row(out, fields_at(i))?;
     }
+    Ok(())
 }
 
 // Code that ends before the eight bytes of an instruction.
-pub fn ends() {
+pub fn ends(out: &mut impl Write) -> io::Result<()> {
     let code = [0u8; 16];
-    text(b"index 0 of no bytes: ");
-    decoded(image::decode(&code[..0], 0, N, M));
-    text(b"index 0 of 7 bytes: ");
-    decoded(image::decode(&code[..7], 0, N, M));
-    text(b"index 1 of 15 bytes: ");
-    decoded(image::decode(&code[..15], 1, N, M));
-    text(b"index 1 of 16 bytes: ");
-    decoded(image::decode(&code, 1, N, M));
-    text(b"the highest index of 16 bytes: ");
-    decoded(image::decode(&code, 0xffff_ffff_ffff_ffff, N, M));
+    text(out, b"index 0 of no bytes: ")?;
+    decoded(out, image::decode(&code[..0], 0, N, M))?;
+    text(out, b"index 0 of 7 bytes: ")?;
+    decoded(out, image::decode(&code[..7], 0, N, M))?;
+    text(out, b"index 1 of 15 bytes: ")?;
+    decoded(out, image::decode(&code[..15], 1, N, M))?;
+    text(out, b"index 1 of 16 bytes: ")?;
+    decoded(out, image::decode(&code, 1, N, M))?;
+    text(out, b"the highest index of 16 bytes: ")?;
+    decoded(out, image::decode(&code, 0xffff_ffff_ffff_ffff, N, M))
 }

@@ -1,18 +1,19 @@
 // What every part of the program prints with.
-use libc::STDOUT_FILENO;
+use std::io;
+use std::io::Write;
 
-pub fn text(s: &[u8]) {
-    io::write_all(STDOUT_FILENO, s);
+pub fn text(out: &mut impl Write, s: &[u8]) -> io::Result<()> {
+    out.write_all(s)
 }
 
 // A word in hexadecimal, after a text.
-pub fn word(s: &[u8], x: u32) {
-    text(s);
-    io::print_hex(STDOUT_FILENO, x as u64, 8);
+pub fn word(out: &mut impl Write, s: &[u8], x: u32) -> io::Result<()> {
+    text(out, s)?;
+    write!(out, "{x:08x}")
 }
 
 // A number in decimal, after a text.
-pub fn number(s: &[u8], n: usize) {
-    text(s);
-    io::print_decimal(STDOUT_FILENO, n as u64);
+pub fn number(out: &mut impl Write, s: &[u8], n: usize) -> io::Result<()> {
+    text(out, s)?;
+    write!(out, "{n}")
 }

@@ -3,6 +3,8 @@
 use super::rows;
 use super::show::{number, text, word};
 use rules::{Data, Operation, Shadow};
+use std::io;
+use std::io::Write;
 
 // An operation, whether both operands are one register, and x, v, y and w.
 #[derive(Clone, Copy)]
@@ -142,7 +144,7 @@ const COMPARED_FROM: usize = 55;
 
 const ROWS: usize = 78;
 
-fn operate(c: Case) {
+fn operate(out: &mut impl Write, c: Case) -> io::Result<()> {
     let op = c.0;
     let x = Data(c.2);
     let v = Shadow(c.3);
@@ -150,17 +152,17 @@ fn operate(c: Case) {
     let w = Shadow(c.5);
     let z = rules::action(op, x, y);
     let u = rules::shadow_of(op, c.1, x, v, y, w);
-    rows::name(op);
-    word(b" x ", x.0);
-    word(b" v ", v.0);
-    word(b" y ", y.0);
-    word(b" w ", w.0);
+    rows::name(out, op)?;
+    word(out, b" x ", x.0)?;
+    word(out, b" v ", v.0)?;
+    word(out, b" y ", y.0)?;
+    word(out, b" w ", w.0)?;
     if c.1 {
-        text(b" same");
+        text(out, b" same")?;
     }
-    word(b": ", z.0);
-    word(b" V ", u.0);
-    text(b"\n");
+    word(out, b": ", z.0)?;
+    word(out, b" V ", u.0)?;
+    text(out, b"\n")
 }
 
 // Row i of all; beyond them the first.
@@ -180,68 +182,69 @@ fn row(i: usize) -> Case {
     }
 }
 
-pub fn table() {
-    let mut i = 0;
-    while i < ROWS {
-        operate(row(i));
-        i += 1;
+pub fn table(out: &mut impl Write) -> io::Result<()> {
+    for i in 0..ROWS {
+        operate(out, row(i))?;
     }
+    Ok(())
 }
 
-fn left(v: u32) {
+fn left(out: &mut impl Write, v: u32) -> io::Result<()> {
     let u = rules::shadows::left(Shadow(v));
-    word(b"Left ", v);
-    word(b": ", u.0);
-    text(b"\n");
+    word(out, b"Left ", v)?;
+    word(out, b": ", u.0)?;
+    text(out, b"\n")
 }
 
-fn mov(y: u32, v: u32) {
+fn mov(out: &mut impl Write, y: u32, v: u32) -> io::Result<()> {
     let z = rules::actions::mov(Data(y));
     let u = rules::shadows::mov(Shadow(v));
-    word(b"MOV y ", y);
-    word(b" v ", v);
-    word(b": ", z.0);
-    word(b" V ", u.0);
-    text(b"\n");
+    word(out, b"MOV y ", y)?;
+    word(out, b" v ", v)?;
+    word(out, b": ", z.0)?;
+    word(out, b" V ", u.0)?;
+    text(out, b"\n")
 }
 
 // The word of four bytes, and that word's byte 3 and byte 4.
-fn bytes(b0: u8, b1: u8, b2: u8, b3: u8) {
+fn bytes(out: &mut impl Write, b0: u8, b1: u8, b2: u8, b3: u8) -> io::Result<()> {
     let x = rules::bytes::join4(b0, b1, b2, b3);
-    word(b"bytes make ", x);
+    word(out, b"bytes make ", x)?;
     word(
+        out,
         b" of which byte 3 is ",
         rules::bytes::zwiden(rules::bytes::byte(x, 3)),
-    );
+    )?;
     word(
+        out,
         b" and byte 4 ",
         rules::bytes::zwiden(rules::bytes::byte(x, 4)),
-    );
-    text(b"\n");
+    )?;
+    text(out, b"\n")
 }
 
-fn swiden(size: u32, x: u32) {
+fn swiden(out: &mut impl Write, size: u32, x: u32) -> io::Result<()> {
     let z = rules::bytes::swiden(size, x);
-    number(b"SWiden of ", size as usize);
-    word(b" bytes ", x);
-    word(b": ", z);
-    text(b"\n");
+    number(out, b"SWiden of ", size as usize)?;
+    word(out, b" bytes ", x)?;
+    word(out, b": ", z)?;
+    text(out, b"\n")
 }
 
 // What has no two operands: Left, MOV, the bytes of a word, and their sign.
-pub fn others() {
-    left(0);
-    left(0x8000_0000);
-    mov(0xdead_beef, 0x0f0f_0f0f);
-    bytes(0xaa, 0xbb, 0xcc, 0xdd);
-    swiden(1, 0x80);
-    swiden(1, 0x7f);
-    swiden(2, 0x8000);
-    swiden(2, 0x7f80);
-    swiden(2, 0xff);
-    swiden(3, 0x0080_0000);
-    swiden(4, 0x8000_0000);
-    swiden(5, 0xffff_ffff);
-    swiden(0, 1);
-    swiden(1, 0x100);
+pub fn others(out: &mut impl Write) -> io::Result<()> {
+    left(out, 0)?;
+    left(out, 0x8000_0000)?;
+    mov(out, 0xdead_beef, 0x0f0f_0f0f)?;
+    bytes(out, 0xaa, 0xbb, 0xcc, 0xdd)?;
+    swiden(out, 1, 0x80)?;
+    swiden(out, 1, 0x7f)?;
+    swiden(out, 2, 0x8000)?;
+    swiden(out, 2, 0x7f80)?;
+    swiden(out, 2, 0xff)?;
+    swiden(out, 3, 0x0080_0000)?;
+    swiden(out, 4, 0x8000_0000)?;
+    swiden(out, 5, 0xffff_ffff)?;
+    swiden(out, 0, 1)?;
+    swiden(out, 1, 0x100)
 }

@@ -1,19 +1,25 @@
 // Images written by the compiled writer: the refusal, the size, and bytes of the buffer. The file
 // stdout beside src/ was written by hand from the documents, and the gate compares.
 #![tactic(auto)]
+
+use std::io;
+use std::io::{BufWriter, Write};
+
 mod cases; // cases.rt: what is written
 mod show; // show.rt: text, numbers and bytes
 
-fn main() {
-    cases::example();
-    cases::rooms();
-    cases::largest();
-    cases::faults();
-    cases::more_faults();
-    cases::most_code();
-    cases::limits();
-    cases::most_data();
-    cases::more_code();
-    cases::more_data();
-    cases::parts();
+fn main(rt: HostRuntime) -> io::Result<()> {
+    let mut stdout = BufWriter::new(rt.alloc(), rt.stdout())?;
+    cases::example(&mut stdout)?;
+    cases::rooms(&mut stdout)?;
+    cases::largest(&mut stdout)?;
+    cases::faults(&mut stdout)?;
+    cases::more_faults(&mut stdout)?;
+    cases::most_code(&mut stdout)?;
+    cases::limits(&mut stdout)?;
+    cases::most_data(&mut stdout)?;
+    cases::more_code(&mut stdout)?;
+    cases::more_data(&mut stdout)?;
+    cases::parts(&mut stdout)?;
+    stdout.flush()
 }
