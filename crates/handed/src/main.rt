@@ -3,18 +3,16 @@
 #![tactic(auto)]
 
 use std::io;
-use std::io::{BufWriter, Write};
 
 mod cases; // cases.rt: the outputs and lists
 mod show; // show.rt: text, numbers and answers
 
 fn main(rt: HostRuntime) -> io::Result<()> {
-    let mut out = BufWriter::new(rt.alloc(), rt.stdout())?;
+    let mut out = rt.stdout();
     cases::ends(&mut out)?;
     cases::outside(&mut out)?;
     cases::ports(&mut out)?;
     cases::numbers(&mut out)?;
     cases::lists(&mut out)?;
-    cases::sizes(&mut out)?;
-    out.flush()
+    cases::sizes(&mut out)
 }

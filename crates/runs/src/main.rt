@@ -4,7 +4,7 @@
 
 use numbers::LINE;
 use std::io;
-use std::io::{BufWriter, Read, Write};
+use std::io::Read;
 
 mod changes; // changes.rt: how a call ended, and what it changed
 mod desk; // desk.rt: the commands of the script
@@ -22,14 +22,13 @@ fn put(line: &mut [u8; LINE], at: usize, b: u8) {
 }
 
 fn main(rt: HostRuntime) -> io::Result<()> {
-    let mut script = Vec::with_capacity(rt.alloc(), SCRIPT)?;
     let mut image = [0u8; numbers::ROOM];
     let mut line = [0u8; LINE];
     let mut d = desk::empty();
     let mut n = 0usize;
-    rt.stdin().take(SCRIPT as u64).read_to_end(&mut script)?;
-    let mut out = BufWriter::new(rt.alloc(), rt.stdout())?;
-    for &b in &script {
+    let mut out = rt.stdout();
+    for read in rt.stdin().lock().take(SCRIPT as u64).bytes() {
+        let b = read?;
         if b == b'\n' {
             d = desk::obey(&mut out, d, &mut image, &line, n)?;
             n = 0;
@@ -38,5 +37,5 @@ fn main(rt: HostRuntime) -> io::Result<()> {
             n = n % LINE + 1;
         }
     }
-    out.flush()
+    Ok(())
 }

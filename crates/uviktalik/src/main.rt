@@ -2,7 +2,7 @@
 // the end on standard output. All that matters is in the crate `checker`.
 #![tactic(auto)]
 
-ghost use Rattle.std.specs.Prelude.{◌≡◌, length};
+ghost use Rattle.std.specs.Prelude.{◌≡◌, ◌≤◌, length, IfOk};
 ghost use Rattle.image.specs.Format.{most_m};
 
 use checker::{Counts, State};
@@ -12,7 +12,7 @@ use image::format::FRAME_REGISTER;
 use image::refusals::ACCEPTED;
 use rules::Data;
 use std::io;
-use std::io::{BufWriter, Read, Write};
+use std::io::{ErrorKind, Read, Write};
 
 // One byte more than the largest image has: whatever is longer is refused as well.
 const INPUT: usize = image::format::LARGEST + 1;
@@ -151,23 +151,45 @@ fn check(
     run(out, image, began.state, mem, vbits, abits)
 }
 
+// Fills the buffer from a stream, and says how many bytes came before the end of the one or the other.
+fn fill(input: &mut impl Read, buffer: &mut [u8]) -> io::Result<usize>
+    ensures { IfOk result (λ n. n ≤ length buffer.new) }
+{
+    let mut size = 0;
+    for _ in 0..u64::MAX {
+        let rest = &mut buffer[size..];
+        if rest.is_empty() {
+            return Ok(size);
+        }
+        match input.read(rest) {
+            Ok(0) => return Ok(size),
+            Ok(n) => size += n,
+            Err(e) => {
+                if e.kind() != ErrorKind::Interrupted {
+                    return Err(e);
+                }
+            }
+        }
+    }
+    Err(ErrorKind::Interrupted.into())
+}
+
 #[tactic(auto, using(crate::proofs::Memory::memory))]
 fn main(rt: HostRuntime) -> io::Result<()> {
-    let mut input = Vec::with_capacity(rt.alloc(), INPUT)?;
+    let mut input = [0u8; INPUT];
     let mut mem = zeros();
     let mut vbits = zeros();
     let mut abits = zeros();
-    rt.stdin().take(INPUT as u64).read_to_end(&mut input)?;
-    let found = image::read(&input);
+    let size = fill(&mut rt.stdin(), &mut input)?;
+    let image = &input[..size];
+    let found = image::read(image);
     let m = found.m as usize;
-    let mut out = BufWriter::new(rt.alloc(), rt.stdout())?;
     check(
-        &mut out,
-        &input,
+        &mut rt.stdout(),
+        image,
         found.m,
         &mut mem[..m],
         &mut vbits[..m],
         &mut abits[..m],
-    )?;
-    out.flush()
+    )
 }

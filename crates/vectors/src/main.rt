@@ -3,7 +3,6 @@
 #![tactic(auto)]
 
 use std::io;
-use std::io::{BufWriter, Write};
 
 mod images; // images.rt: images, and what the reader answers
 mod rows; // rows.rt: instructions, and what they decode to
@@ -11,7 +10,7 @@ mod show; // show.rt: text, words and numbers
 mod words; // words.rt: operations on words
 
 fn main(rt: HostRuntime) -> io::Result<()> {
-    let mut out = BufWriter::new(rt.alloc(), rt.stdout())?;
+    let mut out = rt.stdout();
     words::table(&mut out)?;
     words::others(&mut out)?;
     rows::table(&mut out)?;
@@ -24,6 +23,5 @@ fn main(rt: HostRuntime) -> io::Result<()> {
     images::ranges(&mut out)?;
     images::long(&mut out)?;
     images::largest(&mut out)?;
-    images::longest_code(&mut out)?;
-    out.flush()
+    images::longest_code(&mut out)
 }

@@ -3,13 +3,12 @@
 #![tactic(auto)]
 
 use std::io;
-use std::io::{BufWriter, Write};
 
 mod cases; // cases.rt: what is written
 mod show; // show.rt: text, numbers and bytes
 
 fn main(rt: HostRuntime) -> io::Result<()> {
-    let mut stdout = BufWriter::new(rt.alloc(), rt.stdout())?;
+    let mut stdout = rt.stdout();
     cases::example(&mut stdout)?;
     cases::rooms(&mut stdout)?;
     cases::largest(&mut stdout)?;
@@ -20,6 +19,5 @@ fn main(rt: HostRuntime) -> io::Result<()> {
     cases::most_data(&mut stdout)?;
     cases::more_code(&mut stdout)?;
     cases::more_data(&mut stdout)?;
-    cases::parts(&mut stdout)?;
-    stdout.flush()
+    cases::parts(&mut stdout)
 }
