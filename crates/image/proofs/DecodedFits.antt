@@ -42,7 +42,7 @@ built-fits (Computes op) d a b imm n m l h =
     let e = all_three (is_writable d) (is_register a) (operand_ok b imm) h in
     (writable-holds d e.0, ltb-true _ _ e.1, operand-fits b imm l e.2)
 built-fits (Loads width widening) d a b imm n m l h =
-    let e = all_three (is_writable d) (is_register a) (eqb b 0) h in
+    let e = all_three _ _ _ h in
     (writable-holds d e.0, ltb-true _ _ e.1, l)
 built-fits (Stores width) d a b imm n m l h =
     let e = all_three (is_register d) (is_register a) (eqb b 0) h in

@@ -59,7 +59,7 @@ built-back Moves d a b imm n m h =
 built-back (Computes op) d a b imm n m h =
     let o = operand-back b imm (all_three (is_writable d) (is_register a) (operand_ok b imm) h).2 in
     rw (o.0, o.1)
-built-back (Loads width widening) d a b imm n m h = rw (eqb-true b 0 (all_three (is_writable d) (is_register a) (eqb b 0) h).2)
+built-back (Loads width widening) d a b imm n m h = rw (eqb-true b 0 (both _ (eqb b 0) h).1)
 built-back (Stores width) d a b imm n m h = rw (eqb-true b 0 (all_three (is_register d) (is_register a) (eqb b 0) h).2)
 built-back Jumps d a b imm n m h =
     let e = all-four (eqb d 0) (is_register a) (eqb b 0) (ltb imm n) h in

@@ -32,7 +32,7 @@ use Rattle.machine.proofs.AllowedRuns.{allowed-run}
 -- ---- one step
 -- another register was written
 other-set : (l : List ℕ) (d x : ℕ) → d ≢ frame_register → frame_of (set l d x) ≡ frame_of l
-other-set l d x h = get_or-set_other l d frame_register x 0 (λ e. h (sym e))
+other-set l d x h = get_or-set_other l d _ x 0 (λ e. h (sym e))
 
 -- V of a is used: it is 0, or reported and cleared
 used : (kind a : ℕ) (vs : List ℕ) → ShadowKept (frame_of vs) (frame_of (set vs a 0)) 0 (length (if_undefined kind (get_or vs a 0)))
