@@ -5,7 +5,8 @@ modules in camel case.
 usage: respell.py [FOLDER]
 
 FOLDER (by default the current one) holds crates/. The table respell.tsv beside this file has a row for each
-name: old, new, and the files below crates/ in which it is turned ('*' for all, else patterns). Turned are the
+name: old, new, the files below crates/ in which it is turned ('*' for all, else patterns), and maybe another
+name, without which a file's row does not hold: a file that has been turned lacks it. Turned are the
 files of specs/ and proofs/, and in .rt files clauses, imports of specs/ and comments; what stands in quotes
 there stays. The names of the paper on Memcheck (UifU, Left, PCast, ZWiden, SWiden) stay as they are in
 comments. A second run changes nothing."""
@@ -16,15 +17,13 @@ import sys
 
 HERE = os.path.dirname(os.path.abspath(__file__))
 PAPER = {"UifU", "Left", "PCast", "ZWiden", "SWiden"}
-WORD = re.compile(r"(?<![\w'-])[^\W\d][\w']*(?:-[\w']+)*(?![\w'-])")
-RUST = re.compile(r"(?<![\w'])[^\W\d][\w']*(?:-[\w']+)*")
 
 
 def table():
     rows = []
     for line in open(os.path.join(HERE, "respell.tsv"), encoding="utf-8"):
-        old, new, where = line.rstrip("\n").split("\t")
-        rows.append((old, new, where.split()))
+        old, new, where, beside = (line.rstrip("\n").split("\t") + [""])[:4]
+        rows.append((old, new, where.split(), beside))
     return rows
 
 
@@ -61,8 +60,12 @@ def main():
                 continue
             path = os.path.join(folder, name)
             below = os.path.relpath(path, top)
-            names = {o: n for o, n, where in rows if where == ["*"] or any(fnmatch.fnmatch(below, p) for p in where)}
             old = open(path, encoding="utf-8").read()
+            names = {
+                o: n
+                for o, n, where, beside in rows
+                if (where == ["*"] or any(fnmatch.fnmatch(below, p) for p in where)) and beside in old
+            }
             new = "\n".join(line_of(l, names, name.endswith(".rt")) for l in old.split("\n"))
             if new != old:
                 open(path, "w", encoding="utf-8").write(new)

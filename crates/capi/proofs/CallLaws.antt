@@ -12,13 +12,13 @@ use Rattle.checker.specs.Promises.{BeginPromise, RunPromise}
 use Rattle.capi.specs.Words.{world_in, began_in, ran_in}
 use Rattle.capi.specs.Pieces.{Holds}
 
-pub begun-words : (image words regs mem mem_v mem_a mem' memV' memA' : List ℕ) (given : List Data) (r : Began) → data_words given ≡ regs
-    → BeginPromise image given mem mem_v mem_a r mem' memV' memA' → Holds words r.state
-    → began_in r.refusal.number r.refusal.index words mem' memV' memA' ≡ begin_answer image regs mem mem_v mem_a
-begun-words image words regs mem mem_v mem_a mem' memV' memA' given r e p h = rw (h.regs, h.regs_v, h.counts, sym e) p
+pub begun-words : (image words regs mem mem_v mem_a mem' mem_v' mem_a' : List ℕ) (given : List Data) (r : Began) → data_words given ≡ regs
+    → BeginPromise image given mem mem_v mem_a r mem' mem_v' mem_a' → Holds words r.state
+    → began_in r.refusal.number r.refusal.index words mem' mem_v' mem_a' ≡ begin_answer image regs mem mem_v mem_a
+begun-words image words regs mem mem_v mem_a mem' mem_v' mem_a' given r e p h = rw (h.regs, h.regs_v, h.counts, sym e) p
 
-pub run-words : (image given words mem mem_v mem_a reports outputs : List ℕ) (budget : ℕ) (mem' memV' memA' reports' outputs' : List ℕ) (s : State) (r : Ran)
+pub run-words : (image given words mem mem_v mem_a reports outputs : List ℕ) (budget : ℕ) (mem' mem_v' mem_a' reports' outputs' : List ℕ) (s : State) (r : Ran)
     → Holds given s
-    → RunPromise image s mem mem_v mem_a reports outputs budget r mem' memV' memA' reports' outputs' → Holds words r.state
-    → ran_in r.refusal.number r.refusal.index r.reason words mem' memV' memA' reports' outputs' ≡ run_answer image (world_in given mem mem_v mem_a reports outputs) budget
-run-words image given words mem mem_v mem_a reports outputs budget mem' memV' memA' reports' outputs' s r g p h = rw (h.regs, h.regs_v, h.counts, g.regs, g.regs_v, g.counts) p
+    → RunPromise image s mem mem_v mem_a reports outputs budget r mem' mem_v' mem_a' reports' outputs' → Holds words r.state
+    → ran_in r.refusal.number r.refusal.index r.reason words mem' mem_v' mem_a' reports' outputs' ≡ run_answer image (world_in given mem mem_v mem_a reports outputs) budget
+run-words image given words mem mem_v mem_a reports outputs budget mem' mem_v' mem_a' reports' outputs' s r g p h = rw (h.regs, h.regs_v, h.counts, g.regs, g.regs_v, g.counts) p

@@ -19,7 +19,7 @@ part-is s l at size e fits h =
     (λ i q. let k : i < size = omega (arith, e) in sym (h i k) ∙ sym (get_or-take size (drop at s) i 0 k ∙ get_or-drop at s i 0))
 
 module _ (regs regs_v s s₁ s₂ : List ℕ) (index steps outputs reports : ℕ) (first : s₁ ≡ written (λ k. get_or regs k 0) s 0 16)
-    (second : s₂ ≡ written (λ k. get_or regs_v k 0) s₁ 16 16) (sixteen : length regs ≡ 16) (sixteenV : length regs_v ≡ 16) (long : length s ≡ 36) where
+    (second : s₂ ≡ written (λ k. get_or regs_v k 0) s₁ 16 16) (sixteen : length regs ≡ 16) (sixteen_v : length regs_v ≡ 16) (long : length s ≡ 36) where
   abbrev put : List ℕ
   put = set (set (set (set s₂ 32 index) 33 steps) 34 outputs) 35 reports
 
@@ -59,7 +59,7 @@ module _ (regs regs_v s s₁ s₂ : List ℕ) (index steps outputs reports : ℕ
   regs_v-put : regs_v_in put ≡ regs_v
   regs_v-put =
       sym
-      (part-is put regs_v 16 16 sixteenV (omega (arith, long-put))
+      (part-is put regs_v 16 16 sixteen_v (omega (arith, long-put))
       (λ i h. below (16 + i) (omega arith) ∙ ap (λ (t : List ℕ). get_or t (16 + i) 0) second ∙ written-there _ s₁ 16 16 i h (omega (arith, long₁))))
 
   counts-put : counts_in put ≡ record { index = index; steps = steps; outputs = outputs; reports = reports }

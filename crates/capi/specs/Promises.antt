@@ -11,12 +11,12 @@ abbrev pub ReadPromise : (image : List ℕ) (number : ℕ) (header code : List �
 ReadPromise image number header code fault = (header_in number fault header ≡ header_of image) × (code ≡ code_range (header_of image))
 
 -- the primed buffers are left
-abbrev pub BeginPromise : (image regs mem mem_v mem_a : List ℕ) (number : ℕ) (mem' memV' memA' state' : List ℕ) (fault : ℕ) → Type 0
-BeginPromise image regs mem mem_v mem_a number mem' memV' memA' state' fault = began_in number fault state' mem' memV' memA' ≡ begin_answer image regs mem mem_v mem_a
+abbrev pub BeginPromise : (image regs mem mem_v mem_a : List ℕ) (number : ℕ) (mem' mem_v' mem_a' state' : List ℕ) (fault : ℕ) → Type 0
+BeginPromise image regs mem mem_v mem_a number mem' mem_v' mem_a' state' fault = began_in number fault state' mem' mem_v' mem_a' ≡ begin_answer image regs mem mem_v mem_a
 
-abbrev pub RunPromise : (image state mem mem_v mem_a reports outputs : List ℕ) (budget number : ℕ) (state' mem' memV' memA' reports' outputs' : List ℕ) (reason fault : ℕ) → Type 0
-RunPromise image state mem mem_v mem_a reports outputs budget number state' mem' memV' memA' reports' outputs' reason fault =
-    ran_in number fault reason state' mem' memV' memA' reports' outputs' ≡ run_answer image (world_in state mem mem_v mem_a reports outputs) budget
+abbrev pub RunPromise : (image state mem mem_v mem_a reports outputs : List ℕ) (budget number : ℕ) (state' mem' mem_v' mem_a' reports' outputs' : List ℕ) (reason fault : ℕ) → Type 0
+RunPromise image state mem mem_v mem_a reports outputs budget number state' mem' mem_v' mem_a' reports' outputs' reason fault =
+    ran_in number fault reason state' mem' mem_v' mem_a' reports' outputs' ≡ run_answer image (world_in state mem mem_v mem_a reports outputs) budget
 
 abbrev pub WritePromise : ℕ → (instructions regions held out : List ℕ) (number : ℕ) (out' : List ℕ) (size fault : ℕ) → Type 0
 WritePromise m instructions regions held out number out' size fault = written_in number fault size out' ≡ write_answer m instructions regions held out

@@ -7,7 +7,7 @@
 #![tactic(auto)]
 
 ghost use Rattle.std.specs.Prelude.{◌≡◌, ◌+◌, ◌≤◌, get_or};
-ghost use Rattle.image.specs.Format.{registers as registerCount, part_of};
+ghost use Rattle.image.specs.Format.{registers as register_count, part_of};
 ghost use Rattle.machine.specs.Ranges.{written};
 ghost use Rattle.commands.specs.Answers.{RateIsNumber};
 ghost use Rattle.capi.specs.Words.{version, state_size, code_start};
@@ -45,8 +45,8 @@ const REPORTS: usize = 35;
 // ---- a state and its words
 // Sixteen words of a state.
 fn sixteen(state: [u32; STATE], at: usize) -> [u32; 16]
-    requires { at + registerCount ≤ state_size }
-    ensures { result ≡ part_of state at registerCount }
+    requires { at + register_count ≤ state_size }
+    ensures { result ≡ part_of state at register_count }
 {
     let mut words = [0; 16];
     let mut k = 0;
@@ -59,8 +59,8 @@ fn sixteen(state: [u32; STATE], at: usize) -> [u32; 16]
 
 // A state's words with sixteen of them replaced.
 fn with_sixteen(state: [u32; STATE], at: usize, words: [u32; 16]) -> [u32; STATE]
-    requires { at + registerCount ≤ state_size }
-    ensures { result ≡ written (λ k. get_or words k 0) state at registerCount }
+    requires { at + register_count ≤ state_size }
+    ensures { result ≡ written (λ k. get_or words k 0) state at register_count }
 {
     let mut put = state;
     let mut k = 0;

@@ -49,8 +49,8 @@ module _ (s mem mem_v mem_a : List ℕ) (refusal : Refusal) (e : refusal ≡ beg
     may-begin f =
         let a = allowed-begin in (f, a.image, record { size = a.size; size_v = a.size_v; size_a = a.size_a })
 
-    pub begins : (regs : List ℕ) {mem' memV' memA' : List ℕ} → (mem' ≡ begun_memory s mem) × ((memV' ≡ begun_v s) × (memA' ≡ begun_a s))
-        → record { refusal = refusal; parts = parts regs begun_regs_v mem' memV' memA'; counts = zero_counts } ≡ begin_answer s regs mem mem_v mem_a
+    pub begins : (regs : List ℕ) {mem' mem_v' mem_a' : List ℕ} → (mem' ≡ begun_memory s mem) × ((mem_v' ≡ begun_v s) × (mem_a' ≡ begun_a s))
+        → record { refusal = refusal; parts = parts regs begun_regs_v mem' mem_v' mem_a'; counts = zero_counts } ≡ begin_answer s regs mem mem_v mem_a
     unfolding begin_answer begun_parts
     begins regs l = rw (begin-zero, l.0, l.1.0, l.1.1, e ∙ begin-passed)
 

@@ -30,23 +30,23 @@ all-filled x m l e =
     ap (λ (j : ℕ). get_or (filled x l 0 m) j 0) (let z : i ≡ 0 + i = omega arith in z) ∙ written-there _ l 0 m i h (omega arith) ∙ sym (get_or-replicate m i x 0 h))
 
 -- the first i regions are laid, and the data of the next one begins at `from`
-pub record Laying (regions held mem mem_v mem_a : List ℕ) (r from : ℕ) (mem' memV' memA' : List ℕ) (i : ℕ) : Type 0 where
+pub record Laying (regions held mem mem_v mem_a : List ℕ) (r from : ℕ) (mem' mem_v' mem_a' : List ℕ) (i : ℕ) : Type 0 where
   pub within : i ≤ r
   pub begins : from ≡ filled_sum regions i
-  pub sizes : Sizes (length mem) mem' memV' memA'
+  pub sizes : Sizes (length mem) mem' mem_v' mem_a'
   pub memory : mem' ≡ laid (lay_data regions held) i mem
-  pub shadow : memV' ≡ laid (lay_v regions) i mem_v
-  pub marks : memA' ≡ laid (lay_a regions) i mem_a
+  pub shadow : mem_v' ≡ laid (lay_v regions) i mem_v
+  pub marks : mem_a' ≡ laid (lay_a regions) i mem_a
 
 pub none-laid : (regions held mem mem_v mem_a : List ℕ) (r : ℕ) → Sizes (length mem) mem mem_v mem_a → Laying regions held mem mem_v mem_a r 0 mem mem_v mem_a 0
 unfolding laid filled_sum
 none-laid regions held mem mem_v mem_a r sizes = record { within = omega arith; begins = refl; sizes = sizes; memory = refl; shadow = refl; marks = refl }
 
-module _ {regions held mem mem_v mem_a : List ℕ} {r from : ℕ} {mem' memV' memA' : List ℕ} {i : ℕ} (w : Laying regions held mem mem_v mem_a r from mem' memV' memA' i) where
+module _ {regions held mem mem_v mem_a : List ℕ} {r from : ℕ} {mem' mem_v' mem_a' : List ℕ} {i : ℕ} (w : Laying regions held mem mem_v mem_a r from mem' mem_v' mem_a' i) where
   module _ (h : i < r) {region : Region} (e : region ≡ region_at regions i) where
     -- the next region fits, if each of the r does
     pub next_fits : ((j : ℕ) → j < r → end_of (region_at regions j) ≤ length mem) → filled_sum regions r ≤ length held
-        → Sizes (length mem') mem' memV' memA' × (end_of region ≤ length mem') × (from + filled_of region ≤ length held)
+        → Sizes (length mem') mem' mem_v' mem_a' × (end_of region ≤ length mem') × (from + filled_of region ≤ length held)
     next_fits ends sum =
         let sizes = w.sizes in (
           record { size = refl; size_v = sizes.size_v ∙ sym sizes.size; size_a = sizes.size_a ∙ sym sizes.size },
@@ -54,12 +54,12 @@ module _ {regions held mem mem_v mem_a : List ℕ} {r from : ℕ} {mem' memV' me
           rw e (omega (arith, w.begins, filled_next regions i, filled-mono regions (i + 1) r (omega arith))),
         )
 
-    pub one-laid : {from'' : ℕ} {mem'' memV'' memA'' : List ℕ}
+    pub one-laid : {from'' : ℕ} {mem'' mem_v'' mem_a'' : List ℕ}
         → from'' ≡ from + filled_of region
         → mem'' ≡ cond (is_filled region) (written (λ k. get_or held (from + k) 0) mem' region.start region.size) mem'
-        → memV'' ≡ filled (cond (is_filled region) defined_byte undefined_byte) memV' region.start region.size
-        → memA'' ≡ filled addressable_mark memA' region.start region.size
-        → Laying regions held mem mem_v mem_a r from'' mem'' memV'' memA'' (i + 1)
+        → mem_v'' ≡ filled (cond (is_filled region) defined_byte undefined_byte) mem_v' region.start region.size
+        → mem_a'' ≡ filled addressable_mark mem_a' region.start region.size
+        → Laying regions held mem mem_v mem_a r from'' mem'' mem_v'' mem_a'' (i + 1)
     unfolding laid
     one-laid ef em ev ea =
         let sizes = w.sizes in
@@ -69,8 +69,8 @@ module _ {regions held mem mem_v mem_a : List ℕ} {r from : ℕ} {mem' memV' me
           sizes =
               record {
                 size = ap length em ∙ copied (is_filled region) _ ∙ sizes.size;
-                size_v = ap length ev ∙ length-written _ memV' _ _ ∙ sizes.size_v;
-                size_a = ap length ea ∙ length-written _ memA' _ _ ∙ sizes.size_a;
+                size_v = ap length ev ∙ length-written _ mem_v' _ _ ∙ sizes.size_v;
+                size_a = ap length ea ∙ length-written _ mem_a' _ _ ∙ sizes.size_a;
               };
           memory = em ∙ rw (add-one i, e, w.begins, w.memory);
           shadow = ev ∙ rw (add-one i, e, w.shadow);
@@ -82,7 +82,7 @@ module _ {regions held mem mem_v mem_a : List ℕ} {r from : ℕ} {mem' memV' me
         copied false f = refl
 
   -- r of r
-  pub all_laid : r ≤ i → (mem' ≡ laid (lay_data regions held) r mem) × ((memV' ≡ laid (lay_v regions) r mem_v) × (memA' ≡ laid (lay_a regions) r mem_a))
+  pub all_laid : r ≤ i → (mem' ≡ laid (lay_data regions held) r mem) × ((mem_v' ≡ laid (lay_v regions) r mem_v) × (mem_a' ≡ laid (lay_a regions) r mem_a))
   all_laid h =
       let last : r ≡ i = omega arith in
       rw last (w.memory, (w.shadow, w.marks))
@@ -95,15 +95,15 @@ module _ (s : List ℕ) (a : Accepted s) (found : Header) (f : found ≡ header_
   pub whole-A : 0 + found.m ≤ length mem_a
   whole-A = rw (f, accepted-header s a) (omega (arith, sizes.size_a))
 
-  module _ {regions held memV' memA' : List ℕ} (er : regions ≡ region_part s found.n found.r) (eh : held ≡ data_part s found.n found.r found.d)
-      (ev : memV' ≡ filled undefined_byte mem_v 0 found.m) (ea : memA' ≡ filled unaddressable_mark mem_a 0 found.m) where
+  module _ {regions held mem_v' mem_a' : List ℕ} (er : regions ≡ region_part s found.n found.r) (eh : held ≡ data_part s found.n found.r found.d)
+      (ev : mem_v' ≡ filled undefined_byte mem_v 0 found.m) (ea : mem_a' ≡ filled unaddressable_mark mem_a 0 found.m) where
     its-regions : regions ≡ regions_of s
     its-regions = er ∙ rw (f, accepted-header s a)
 
     its-data : held ≡ data_of s
     its-data = eh ∙ rw (f, accepted-header s a)
 
-    pub can-lay : Sizes (length mem) mem memV' memA' × ((i : ℕ) → i < found.r → end_of (region_at regions i) ≤ length mem) × (filled_sum regions found.r ≤ length held)
+    pub can-lay : Sizes (length mem) mem mem_v' mem_a' × ((i : ℕ) → i < found.r → end_of (region_at regions i) ≤ length mem) × (filled_sum regions found.r ≤ length held)
     can-lay = (
       record {
         size = refl;
@@ -114,9 +114,9 @@ module _ (s : List ℕ) (a : Accepted s) (found : Header) (f : found ≡ header_
       rw (its-regions, its-data, f, accepted-header s a) (omega (arith, a.sum, data-length s a)),
     )
 
-    pub begun : {mem'' memV'' memA'' : List ℕ}
-        → (mem'' ≡ laid (lay_data regions held) found.r mem) × ((memV'' ≡ laid (lay_v regions) found.r memV') × (memA'' ≡ laid (lay_a regions) found.r memA'))
-        → (mem'' ≡ begun_memory s mem) × ((memV'' ≡ begun_v s) × (memA'' ≡ begun_a s))
+    pub begun : {mem'' mem_v'' mem_a'' : List ℕ}
+        → (mem'' ≡ laid (lay_data regions held) found.r mem) × ((mem_v'' ≡ laid (lay_v regions) found.r mem_v') × (mem_a'' ≡ laid (lay_a regions) found.r mem_a'))
+        → (mem'' ≡ begun_memory s mem) × ((mem_v'' ≡ begun_v s) × (mem_a'' ≡ begun_a s))
     unfolding begun_memory begun_v begun_a
     begun l = (
       l.0 ∙ rw (its-regions, its-data, f, accepted-header s a),

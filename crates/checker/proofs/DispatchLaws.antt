@@ -175,10 +175,10 @@ module _ {i j : Instruction} (e : i ≡ j) where
   pub parts-as : {c t : Counts} {p p' : Parts} {l l' : List ℕ} → StepsParts j c p l t p' l' → StepsParts i c p l t p' l'
   parts-as s = rw e s
 
-  pub marks-as : {c t : Counts} {mem_v mem_a memV' memA' : List ℕ} → StepsMarks j c mem_v mem_a t memV' memA' → StepsMarks i c mem_v mem_a t memV' memA'
+  pub marks-as : {c t : Counts} {mem_v mem_a mem_v' mem_a' : List ℕ} → StepsMarks j c mem_v mem_a t mem_v' mem_a' → StepsMarks i c mem_v mem_a t mem_v' mem_a'
   marks-as s = rw e s
 
-  pub steps-as : {c t : Counts} {regs regs_v regs' regsV' : List ℕ} → StepsRegisters j c regs regs_v t regs' regsV' → StepsRegisters i c regs regs_v t regs' regsV'
+  pub steps-as : {c t : Counts} {regs regs_v regs' regs_v' : List ℕ} → StepsRegisters j c regs regs_v t regs' regs_v' → StepsRegisters i c regs regs_v t regs' regs_v'
   steps-as s = rw e s
 
 -- ---- what a group asks for
@@ -190,20 +190,20 @@ fits-some i j m f e = record { memory = m; fitting = fits-memory i j m f e }
 
 -- ---- what it promises
 module _ {i j : Instruction} {c t : Counts} {regs regs_v mem mem_v mem_a l outputs : List ℕ} where
-  pub by-registers : {regs' regsV' : List ℕ} → StepsRegisters j c regs regs_v t regs' regsV' → i ≡ j
-      → world t (parts regs' regsV' mem mem_v mem_a) l outputs ≡ stepped i (world c (parts regs regs_v mem mem_v mem_a) l outputs)
+  pub by-registers : {regs' regs_v' : List ℕ} → StepsRegisters j c regs regs_v t regs' regs_v' → i ≡ j
+      → world t (parts regs' regs_v' mem mem_v mem_a) l outputs ≡ stepped i (world c (parts regs regs_v mem mem_v mem_a) l outputs)
   by-registers s e = rw e (s.taken mem mem_v mem_a l outputs)
 
-  pub by-use : {regsV' l' : List ℕ} → StepsUse j regs c regs_v l t regsV' l' → i ≡ j
-      → world t (parts regs regsV' mem mem_v mem_a) l' outputs ≡ stepped i (world c (parts regs regs_v mem mem_v mem_a) l outputs)
+  pub by-use : {regs_v' l' : List ℕ} → StepsUse j regs c regs_v l t regs_v' l' → i ≡ j
+      → world t (parts regs regs_v' mem mem_v mem_a) l' outputs ≡ stepped i (world c (parts regs regs_v mem mem_v mem_a) l outputs)
   by-use s e = rw e (s.taken mem mem_v mem_a outputs)
 
-  pub by-output : {regsV' l' outputs' : List ℕ} → StepsOutput j regs c regs_v l outputs t regsV' l' outputs' → i ≡ j
-      → world t (parts regs regsV' mem mem_v mem_a) l' outputs' ≡ stepped i (world c (parts regs regs_v mem mem_v mem_a) l outputs)
+  pub by-output : {regs_v' l' outputs' : List ℕ} → StepsOutput j regs c regs_v l outputs t regs_v' l' outputs' → i ≡ j
+      → world t (parts regs regs_v' mem mem_v mem_a) l' outputs' ≡ stepped i (world c (parts regs regs_v mem mem_v mem_a) l outputs)
   by-output s e = rw e (s.taken mem mem_v mem_a)
 
-  pub by-marks : {memV' memA' : List ℕ} → StepsMarks j c mem_v mem_a t memV' memA' → i ≡ j
-      → world t (parts regs regs_v mem memV' memA') l outputs ≡ stepped i (world c (parts regs regs_v mem mem_v mem_a) l outputs)
+  pub by-marks : {mem_v' mem_a' : List ℕ} → StepsMarks j c mem_v mem_a t mem_v' mem_a' → i ≡ j
+      → world t (parts regs regs_v mem mem_v' mem_a') l outputs ≡ stepped i (world c (parts regs regs_v mem mem_v mem_a) l outputs)
   by-marks s e = rw e (s.taken regs regs_v mem l outputs)
 
 -- STOP takes a step like any other, though a run never asks for it

@@ -51,38 +51,38 @@ pub record Reports (rs : List Report) (c : Counts) (l : List ℕ) (t : Counts) (
 
 -- the checks of a load or store: it begins at this address, V of register a is cleared, and the reports are made
 pub record Accessed (kind : ℕ) (width : Width) (a imm : ℕ) (regs mem_a : List ℕ) (c : Counts) (regs_v l : List ℕ)
-    (at : ℕ) (whole : Bool) (t : Counts) (regsV' l' : List ℕ) : Type 0 where
+    (at : ℕ) (whole : Bool) (t : Counts) (regs_v' l' : List ℕ) : Type 0 where
   pub place : at ≡ address_of regs a imm
   pub fits : at < 2 ^ 32
   pub bytes : whole ≡ all_addressable mem_a at (bytes_of width)
-  pub clear : regsV' ≡ set regs_v a 0
+  pub clear : regs_v' ≡ set regs_v a 0
   pub reports : Reports (if_undefined undefined_address (get_or regs_v a 0) ++ if_blocked kind at (not whole)) c l t l'
 
 -- ---- the step of an instruction i, by a function that is lent a part of the machine: it leaves t and the primed parts and lists, whatever
 -- the rest is
 -- the registers
-pub record StepsRegisters (i : Instruction) (c : Counts) (regs regs_v : List ℕ) (t : Counts) (regs' regsV' : List ℕ) : Type 0 where
+pub record StepsRegisters (i : Instruction) (c : Counts) (regs regs_v : List ℕ) (t : Counts) (regs' regs_v' : List ℕ) : Type 0 where
   pub taken : (mem mem_v mem_a reports outputs : List ℕ)
-      → world t (parts regs' regsV' mem mem_v mem_a) reports outputs ≡ stepped i (world c (parts regs regs_v mem mem_v mem_a) reports outputs)
+      → world t (parts regs' regs_v' mem mem_v mem_a) reports outputs ≡ stepped i (world c (parts regs regs_v mem mem_v mem_a) reports outputs)
 
 -- all parts, and the reports
 pub record StepsParts (i : Instruction) (c : Counts) (p : Parts) (reports : List ℕ) (t : Counts) (p' : Parts) (reports' : List ℕ) : Type 0 where
   pub taken : (outputs : List ℕ) → world t p' reports' outputs ≡ stepped i (world c p reports outputs)
 
 -- a register's use: the registers read, their V words, and the reports
-pub record StepsUse (i : Instruction) (regs : List ℕ) (c : Counts) (regs_v reports : List ℕ) (t : Counts) (regsV' reports' : List ℕ) : Type 0 where
+pub record StepsUse (i : Instruction) (regs : List ℕ) (c : Counts) (regs_v reports : List ℕ) (t : Counts) (regs_v' reports' : List ℕ) : Type 0 where
   pub taken : (mem mem_v mem_a outputs : List ℕ)
-      → world t (parts regs regsV' mem mem_v mem_a) reports' outputs ≡ stepped i (world c (parts regs regs_v mem mem_v mem_a) reports outputs)
+      → world t (parts regs regs_v' mem mem_v mem_a) reports' outputs ≡ stepped i (world c (parts regs regs_v mem mem_v mem_a) reports outputs)
 
 -- an output: the same, and the outputs
-pub record StepsOutput (i : Instruction) (regs : List ℕ) (c : Counts) (regs_v reports outputs : List ℕ) (t : Counts) (regsV' reports' outputs' : List ℕ) : Type 0 where
+pub record StepsOutput (i : Instruction) (regs : List ℕ) (c : Counts) (regs_v reports outputs : List ℕ) (t : Counts) (regs_v' reports' outputs' : List ℕ) : Type 0 where
   pub taken : (mem mem_v mem_a : List ℕ)
-      → world t (parts regs regsV' mem mem_v mem_a) reports' outputs' ≡ stepped i (world c (parts regs regs_v mem mem_v mem_a) reports outputs)
+      → world t (parts regs regs_v' mem mem_v mem_a) reports' outputs' ≡ stepped i (world c (parts regs regs_v mem mem_v mem_a) reports outputs)
 
 -- V and A bytes
-pub record StepsMarks (i : Instruction) (c : Counts) (mem_v mem_a : List ℕ) (t : Counts) (memV' memA' : List ℕ) : Type 0 where
+pub record StepsMarks (i : Instruction) (c : Counts) (mem_v mem_a : List ℕ) (t : Counts) (mem_v' mem_a' : List ℕ) : Type 0 where
   pub taken : (regs regs_v mem reports outputs : List ℕ)
-      → world t (parts regs regs_v mem memV' memA') reports outputs ≡ stepped i (world c (parts regs regs_v mem mem_v mem_a) reports outputs)
+      → world t (parts regs regs_v mem mem_v' mem_a') reports outputs ≡ stepped i (world c (parts regs regs_v mem mem_v mem_a) reports outputs)
 
 -- ---- what a step and a run go by
 -- the three buffers of a machine with so many bytes of memory

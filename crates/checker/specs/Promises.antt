@@ -10,10 +10,10 @@ use Rattle.flat.specs.Registers.{data_words}
 use Rattle.checker.specs.Views.{world_of, began_of, ran_of}
 
 -- r is answered, and the primed buffers are left
-abbrev pub BeginPromise : (image : List ℕ) (regs : List Data) (mem mem_v mem_a : List ℕ) → Began → (mem' memV' memA' : List ℕ) → Type 0
-BeginPromise image regs mem mem_v mem_a r mem' memV' memA' = began_of r mem' memV' memA' ≡ begin_answer image (data_words regs) mem mem_v mem_a
+abbrev pub BeginPromise : (image : List ℕ) (regs : List Data) (mem mem_v mem_a : List ℕ) → Began → (mem' mem_v' mem_a' : List ℕ) → Type 0
+BeginPromise image regs mem mem_v mem_a r mem' mem_v' mem_a' = began_of r mem' mem_v' mem_a' ≡ begin_answer image (data_words regs) mem mem_v mem_a
 
 -- r is answered, and the primed buffers and lists are left
-abbrev pub RunPromise : (image : List ℕ) → State → (mem mem_v mem_a reports outputs : List ℕ) (budget : ℕ) → Ran → (mem' memV' memA' reports' outputs' : List ℕ) → Type 0
-RunPromise image state mem mem_v mem_a reports outputs budget r mem' memV' memA' reports' outputs' =
-    ran_of r mem' memV' memA' reports' outputs' ≡ run_answer image (world_of state mem mem_v mem_a reports outputs) budget
+abbrev pub RunPromise : (image : List ℕ) → State → (mem mem_v mem_a reports outputs : List ℕ) (budget : ℕ) → Ran → (mem' mem_v' mem_a' reports' outputs' : List ℕ) → Type 0
+RunPromise image state mem mem_v mem_a reports outputs budget r mem' mem_v' mem_a' reports' outputs' =
+    ran_of r mem' mem_v' mem_a' reports' outputs' ≡ run_answer image (world_of state mem mem_v mem_a reports outputs) budget

@@ -24,12 +24,12 @@ use Rattle.image.proofs.Tests.{apart, both, all-four, either}
 use Rattle.image.proofs.Faults.{passed, both-passed, no-fault, all_pass}
 
 -- ---- the tests, as facts
-pub within-holds : (topM topN topR topD m n r d : ℕ) → limits_within topM topN topR topD m n r d ≡ true
-    → ((1 ≤ m) × (m ≤ topM)) × ((1 ≤ n) × (n ≤ topN)) × (r ≤ topR) × (d ≤ topD)
-within-holds topM topN topR topD m n r d h =
-    let e6 = both _ (leb d topD) h in
-    let e5 = both _ (leb r topR) e6.0 in
-    let e = all-four (leb 1 m) (leb m topM) (leb 1 n) (leb n topN) e5.0 in
+pub within-holds : (top_m top_n top_r top_d m n r d : ℕ) → limits_within top_m top_n top_r top_d m n r d ≡ true
+    → ((1 ≤ m) × (m ≤ top_m)) × ((1 ≤ n) × (n ≤ top_n)) × (r ≤ top_r) × (d ≤ top_d)
+within-holds top_m top_n top_r top_d m n r d h =
+    let e6 = both _ (leb d top_d) h in
+    let e5 = both _ (leb r top_r) e6.0 in
+    let e = all-four (leb 1 m) (leb m top_m) (leb 1 n) (leb n top_n) e5.0 in
     ((leb-true _ _ e.0, leb-true _ _ e.1), (leb-true _ _ e.2, leb-true _ _ e.3), leb-true _ _ e5.1, leb-true _ _ e6.1)
 
 pub limits-hold : (m n r d : ℕ) → limits_ok m n r d ≡ true → Limits m n r d

@@ -84,8 +84,8 @@ magic_ok s =
     eqb (get_or s 0 0) (get_or magic 0 0) && eqb (get_or s 1 0) (get_or magic 1 0) && eqb (get_or s 2 0) (get_or magic 2 0) && eqb (get_or s 3 0) (get_or magic 3 0)
 
 -- M and N are at least 1; and the most that each may be
-abbrev pub limits_within : (topM topN topR topD m n r d : ℕ) → Bool
-limits_within topM topN topR topD m n r d = leb 1 m && leb m topM && leb 1 n && leb n topN && leb r topR && leb d topD
+abbrev pub limits_within : (top_m top_n top_r top_d m n r d : ℕ) → Bool
+limits_within top_m top_n top_r top_d m n r d = leb 1 m && leb m top_m && leb 1 n && leb n top_n && leb r top_r && leb d top_d
 
 abbrev pub limits_ok : ℕ → ℕ → ℕ → ℕ → Bool
 limits_ok = limits_within most_m most_n most_r most_d

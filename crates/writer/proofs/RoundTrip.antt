@@ -95,17 +95,17 @@ module _ (s : List ℕ) (b : Bytes s) (a : Accepted s) where
   abbrev filling : List ℕ
   filling = data_part s n r (field_d s)
 
-  code-words : length code ≡ instruction_words * n
-  code-words = length-first (code_part s n) (length (code_part s n) / 4) ∙ omega (arith, code-length s a)
+  words-of-code : length code ≡ instruction_words * n
+  words-of-code = length-first (code_part s n) (length (code_part s n) / 4) ∙ omega (arith, code-length s a)
 
-  region-words : length places ≡ region_words * r
-  region-words = length-first (region_part s n r) (length (region_part s n r) / 4) ∙ omega (arith, region-length s a)
+  words-of-regions : length places ≡ region_words * r
+  words-of-regions = length-first (region_part s n r) (length (region_part s n r) / 4) ∙ omega (arith, region-length s a)
 
   code-count : instruction_count code ≡ n
-  code-count = omega (arith, code-words)
+  code-count = omega (arith, words-of-code)
 
   region-count : region_count places ≡ r
-  region-count = omega (arith, region-words)
+  region-count = omega (arith, words-of-regions)
 
   code-again : bytes_of code ≡ code_part s n
   code-again = bytes_back (code_part s n) (instruction_words * n) (bytes-part s header_size (8 * n) b) (omega (arith, code-length s a))
@@ -140,7 +140,7 @@ module _ (s : List ℕ) (b : Bytes s) (a : Accepted s) where
         code_words = ap words_of (accepted-code s a);
         fields = λ i l.
             ap (λ (t : List ℕ). fields_at t i) (accepted-code s a ∙ sym code-again)
-            ∙ fields-by-words code (words-fit (code_part s n) (length (code_part s n) / 4) (bytes-part s header_size (8 * n) b)) i (omega (arith, code-words));
+            ∙ fields-by-words code (words-fit (code_part s n) (length (code_part s n) / 4) (bytes-part s header_size (8 * n) b)) i (omega (arith, words-of-code));
         region_words = rw header;
         data_bytes = rw header;
       }
@@ -173,8 +173,8 @@ module _ (s : List ℕ) (b : Bytes s) (m : ℕ) (instructions regions held : Lis
 
   written-again : (out : List ℕ) → length s ≤ length out → write_answer m instructions regions held out ≡ written s out
   written-again out h =
-      let codes : length instructions ≡ instruction_words * field_n s = ap length same_code ∙ code-words s b known in
-      let places : length regions ≡ region_words * field_r s = ap length same-regions ∙ region-words s b known in
+      let codes : length instructions ≡ instruction_words * field_n s = ap length same_code ∙ words-of-code s b known in
+      let places : length regions ≡ region_words * field_r s = ap length same-regions ∙ words-of-regions s b known in
       let filling : length held ≡ field_d s = ap length same-data ∙ data-length s known in
       let l = known.limits in
       let whole : whole_entries instruction_words instructions && whole_entries region_words regions ≡ true = simp (eq-eqb _ _ (ap (λ (x : ℕ). x % instruction_words) codes ∙ mul-mod_right instruction_words (field_n s)), eq-eqb _ _ (ap (λ (x : ℕ). x % region_words) places ∙ mul-mod_right region_words (field_r s))) in
