@@ -1,10 +1,9 @@
 -- Each rule's two choices (02, L14): for a bit that it calls undefined they give different values.
-use Rattle.std.proofs.Common.{◌≡◌, ℕ, zero, ◌-◌, ◌^◌, ◌<◌, ◌≤◌, min, max, Bool, true, false, cond, not, ◌||◌, eqb, ◌⊎◌, ◌↔◌, sym, refl, ap, ◌∙◌, ap₂, inl, inr, ⊎_elim, eq-zero-or-pos, arith, eq-eqb, ne_eqb, eqb-true}
-use borrow.Author.Tests.{eqb-false}
+use Rattle.std.proofs.Common.{◌≡◌, ℕ, zero, ◌-◌, ◌^◌, ◌<◌, ◌≤◌, min, max, Bool, false, cond, eqb, sym, refl, ap, ◌∙◌, ap₂, ⊎_elim, eq-zero-or-pos, arith, eq-eqb, ne_eqb}
 use lib.Bits.{bit_and, bit_or, bit_xor, differ, and_lt, or_lt, xor_lt}
 use Rattle.rules.specs.Word.{bit, inverted, one_if, all_ones}
 use Rattle.rules.specs.Actions.{mov_of, and_of, or_of, xor_of, shl_of, shr_of, sar_of, eq_of}
-use Rattle.rules.specs.Shadows.{uifu, low, high, mov_v, and_v, or_v, xor_v, shift_v, apart, eq_v}
+use Rattle.rules.specs.Shadows.{uifu, low, high, mov_v, and_v, or_v, xor_v, shift_v, eq_v}
 use Rattle.rules.specs.Operations.{action_of, shadow_of}
 use Rattle.rules.specs.Agreement.{Agree}
 use Rattle.rules.specs.Alarms.{Choice, Varies, ResultVaries, Claimed, and, or, xor, eq, shl, shr, sar, operation_of, Covered}
@@ -12,7 +11,7 @@ use Rattle.rules.proofs.Bits.{lt-or-ge, bit-lt, bit-zero, bit_high, zero-or-one,
 use Rattle.rules.proofs.Agreement.{alike-below, alike_self, bit-low, alike-low, alike-high, Moves}
 use Rattle.rules.proofs.Bitwise.{and-rule}
 use Rattle.rules.proofs.Shift.{shl-moves, shr-moves, sar-moves}
-use Rattle.rules.proofs.Compare.{apart_none}
+use Rattle.rules.proofs.Compare.{Unsettled, eq-undefined}
 
 -- ---- choices
 itself : {x v : ℕ} → x < 2 ^ 32 → v < 2 ^ 32 → Choice x v
@@ -137,22 +136,6 @@ shift-varies f moves i {x} {v} {y} {w} hx hv hy e o = ⊎_elim moved clear (move
     clear t = absurd (omega (arith, here, t v hv))
 
 -- ---- EQ
--- the words agree in each bit that is defined on both sides, and some bit of either is undefined
-abbrev Unsettled : ℕ → ℕ → ℕ → ℕ → Type 0
-Unsettled x v y w = Agree (uifu v w) x y × (uifu v w ≡ 0 → ⊥)
-
--- what the rule comes to: V 1 exactly there, and V 0 elsewhere
-pub eq-undefined : (same : Bool) (x v y w : ℕ) → x < 2 ^ 32 → v < 2 ^ 32 → y < 2 ^ 32 → w < 2 ^ 32 → ((eq_v same x v y w ≡ 1) × Unsettled x v y w) ⊎ ((eq_v same x v y w ≡ 0) × (Unsettled x v y w → ⊥))
-eq-undefined same x v y w hx hv hy hw = go (eqb (apart x v y w) 0) (eqb (uifu v w) 0) refl refl
-  where
-    none : (apart x v y w ≡ 0) ↔ Agree (uifu v w) x y
-    none = apart_none x v y w hx hv hy hw
-
-    go : (s d : Bool) → eqb (apart x v y w) 0 ≡ s → eqb (uifu v w) 0 ≡ d → ((cond {A = ℕ} (not s || d) 0 1 ≡ 1) × Unsettled x v y w) ⊎ ((cond {A = ℕ} (not s || d) 0 1 ≡ 0) × (Unsettled x v y w → ⊥))
-    go true false s d = inl (refl, (none.0 (eqb-true (apart x v y w) 0 s), eqb-false (uifu v w) 0 d))
-    go true true s d = inr (refl, λ u. u.1 (eqb-true (uifu v w) 0 d))
-    go false _ s d = inr (refl, λ u. eqb-false (apart x v y w) 0 s (none.1 u.0))
-
 -- its two choices: one word for both operands, and then one of them flipped
 module _ (i : ℕ) {x v y w : ℕ} (hx : x < 2 ^ 32) (hv : v < 2 ^ 32) (hy : y < 2 ^ 32) (hw : w < 2 ^ 32) where
   -- the word: what is defined in x, and y's bits elsewhere

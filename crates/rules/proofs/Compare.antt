@@ -1,5 +1,5 @@
 -- LTU and EQ: LTU's rule is sound for any test of two words; EQ's is the same, but where a defined difference tells the words apart.
-use Rattle.std.proofs.Common.{◌≡◌, ℕ, ◌-◌, ◌^◌, ◌<◌, ◌≤◌, min, max, Bool, true, false, cond, not, ◌||◌, eqb, ◌↔◌, sym, refl, ap, ◌∙◌, ap₂, subst₂, ⊎_elim, arith, ne_eqb, eqb-true}
+use Rattle.std.proofs.Common.{◌≡◌, ℕ, ◌-◌, ◌^◌, ◌<◌, ◌≤◌, min, max, Bool, true, false, cond, not, ◌||◌, eqb, ◌⊎◌, ◌↔◌, sym, refl, ap, ◌∙◌, ap₂, subst₂, inl, inr, ⊎_elim, arith, ne_eqb, eqb-true}
 use borrow.Author.Tests.{eqb-false}
 use lib.Bits.{bit_or, bit_xor, differ, and_lt, or_lt, xor_lt}
 use Rattle.rules.specs.Word.{bit, inverted, one_if}
@@ -80,3 +80,20 @@ eq-sound same x v x' y w y' both a b = go (eqb (apart x v y w) 0) refl
         (sym (unequal (alike_self a.shadow a.first) (alike_self b.shadow b.first) s))
         (sym (unequal a b s))
         (alike_self (omega arith) (omega arith))
+
+-- ---- what EQ's rule comes to
+-- the words agree in each bit that is defined on both sides, and some bit of either is undefined
+abbrev pub Unsettled : ℕ → ℕ → ℕ → ℕ → Type 0
+Unsettled x v y w = Agree (uifu v w) x y × (uifu v w ≡ 0 → ⊥)
+
+-- what the rule comes to: V 1 exactly there, and V 0 elsewhere
+pub eq-undefined : (same : Bool) (x v y w : ℕ) → x < 2 ^ 32 → v < 2 ^ 32 → y < 2 ^ 32 → w < 2 ^ 32 → ((eq_v same x v y w ≡ 1) × Unsettled x v y w) ⊎ ((eq_v same x v y w ≡ 0) × (Unsettled x v y w → ⊥))
+eq-undefined same x v y w hx hv hy hw = go (eqb (apart x v y w) 0) (eqb (uifu v w) 0) refl refl
+  where
+    none : (apart x v y w ≡ 0) ↔ Agree (uifu v w) x y
+    none = apart_none x v y w hx hv hy hw
+
+    go : (s d : Bool) → eqb (apart x v y w) 0 ≡ s → eqb (uifu v w) 0 ≡ d → ((cond {A = ℕ} (not s || d) 0 1 ≡ 1) × Unsettled x v y w) ⊎ ((cond {A = ℕ} (not s || d) 0 1 ≡ 0) × (Unsettled x v y w → ⊥))
+    go true false s d = inl (refl, (none.0 (eqb-true (apart x v y w) 0 s), eqb-false (uifu v w) 0 d))
+    go true true s d = inr (refl, λ u. u.1 (eqb-true (uifu v w) 0 d))
+    go false _ s d = inr (refl, λ u. eqb-false (apart x v y w) 0 s (none.1 u.0))

@@ -88,7 +88,7 @@ sar_v = shift_v sar_of
 abbrev pub apart : ℕ → ℕ → ℕ → ℕ → ℕ
 apart x v y w = bit_and (bit_xor x y) (inverted (uifu v w))
 
--- EQ (02, L4; 002, 3.3.4): V 0 if some bit is defined on both sides and differs, or if no bit of either is undefined; otherwise V 1 (`eq-undefined` of proofs/Alarms.antt shows when)
+-- EQ (02, L4; 002, 3.3.4): V 0 if some bit is defined on both sides and differs, or if no bit of either is undefined; otherwise V 1 (`eq-undefined` of proofs/Compare.antt shows when)
 abbrev pub eq_v : Rule
 eq_v same x v y w = cond (not (apart x v y w == 0) || uifu v w == 0) 0 1
 
