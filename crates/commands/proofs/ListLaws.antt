@@ -1,8 +1,9 @@
 -- The test of a list of outputs, place by place, and the answer case by case.
-use Prim.Native.Nat.{ℕ, ◌≤◌, ◌<◌}
+use Prim.Native.Nat.{ℕ, ◌+◌, ◌≤◌, ◌<◌}
 use mathlib.Core.Path.{◌≡◌, refl, sym, ap, ◌∙◌}
 use mathlib.Core.Bool.{Bool, true, false, ◌&&◌}
 use mathlib.Core.List.{List}
+use native.Mathlib.Numerals.{add-one}
 use native.Mathlib.Omega.{arith}
 use borrow.Author.Tests.{lt-ltb, le-ltb, ltb-true}
 use lib.Dec.{ltb}
@@ -55,3 +56,6 @@ module _ (outputs : List ℕ) (number : ℕ) where
       pub all-ports : (k : ℕ) → k ≤ output_places outputs → output_places outputs ≤ k → every (has_port outputs) k ≡ true → true ≡ accepts outputs number
       unfolding ports_ok
       all-ports k a b e = let q : k ≡ output_places outputs = omega arith in sym (by-ports ∙ sym (ap (every (has_port outputs)) q) ∙ e)
+
+pub next-port : (outputs : List ℕ) (k : ℕ) → every (has_port outputs) k ≡ true → port_at outputs k < ports → every (has_port outputs) (k + 1) ≡ true
+next-port outputs k e h = rw (add-one, e, lt-ltb (port_at outputs k) ports h)

@@ -1,6 +1,6 @@
 -- The parts of an image that is made of lists: where they stand, how they are put there, how they are found again.
 use Prim.Native.Nat.{ℕ, ◌+◌, ◌*◌, ◌≤◌}
-use mathlib.Core.Path.{◌≡◌, refl, ◌∙◌, ap}
+use mathlib.Core.Path.{◌≡◌, refl, sym, ◌∙◌, ap}
 use mathlib.Core.List.{List, ◌++◌, append_assoc}
 use native.Mathlib.Omega.{arith}
 use lib.ListN.{length, take, drop, length-append}
@@ -10,7 +10,16 @@ use Rattle.writer.specs.Words.{bytes_of}
 use Rattle.writer.specs.Writing.{instruction_count, region_count, header_words, image_of}
 use Rattle.writer.specs.Pieces.{Counted}
 use Rattle.writer.proofs.WordLaws.{length-bytes}
-use Rattle.writer.proofs.Putting.{none-put, more-put}
+use Rattle.writer.proofs.Putting.{sets-append, none-put, more-put}
+
+-- the header, put in two pieces
+pub header-put : (l o₁ o₂ words : List ℕ) (m n r d : ℕ) → o₁ ≡ sets l 0 magic → words ≡ header_words m n r d → o₂ ≡ sets o₁ 4 (bytes_of words)
+    → o₂ ≡ sets l 0 (magic ++ bytes_of (header_words m n r d))
+header-put l o₁ o₂ words m n r d e₁ e e₂ =
+    e₂
+    ∙ ap (λ (ws : List ℕ). sets o₁ 4 (bytes_of ws)) e
+    ∙ ap (λ (x : List ℕ). sets x 4 (bytes_of (header_words m n r d))) e₁
+    ∙ sym (sets-append l 0 magic (bytes_of (header_words m n r d)))
 
 module _ (m : ℕ) (instructions regions held : List ℕ) (whole : Counted m instructions regions (length held)) where
   abbrev n : ℕ

@@ -1,20 +1,21 @@
 -- What the writer's refusals say of the lists, and what it answers.
-use Prim.Native.Nat.{ℕ, ◌%◌, ◌≤◌}
+use Prim.Native.Nat.{ℕ, ◌+◌, ◌%◌, ◌≤◌}
 use mathlib.Core.Path.{◌≡◌, refl, sym, ◌∙◌}
 use mathlib.Core.Bool.{Bool, true, false, cond}
 use mathlib.Core.List.{List}
 use native.Mathlib.Omega.{arith}
 use lib.ListN.{length}
-use lib.Dec.{lit<, eqb}
+use lib.Dec.{lit<, leb, eqb}
 use lib.Seq.{sets}
 use borrow.Author.Tests.{leb-true, eqb-true, eq-eqb, ne_eqb}
-use Rattle.image.specs.Format.{size_of, limits_ok}
-use Rattle.image.specs.Refusals.{accepted, unless, or_else, out_of_limits}
+use Rattle.image.specs.Format.{data_at, size_of, limits_ok}
+use Rattle.image.specs.Regions.{filled_sum}
+use Rattle.image.specs.Refusals.{refused, accepted, unless, or_else, out_of_limits, wrong_sum, code_refusal, region_refusal}
 use Rattle.image.specs.declared.Refusal.{Refusal}
 use Rattle.image.proofs.Tests.{all_three}
 use Rattle.image.proofs.Faults.{passed, both-passed}
 use Rattle.image.proofs.AcceptedImage.{limits-hold}
-use Rattle.writer.specs.Words.{instruction_words, region_words}
+use Rattle.writer.specs.Words.{bytes_of, instruction_words, region_words}
 use Rattle.writer.specs.Writing.{no_room, instruction_count, region_count, image_of, whole_entries, counts_ok, entries_refusal, room_ok, write_refusal, written, not_written, write_answer}
 use Rattle.writer.specs.Pieces.{Counted}
 use Rattle.writer.proofs.ImageLaws.{image-length, put_front}
@@ -28,6 +29,21 @@ module _ (m : ℕ) (instructions regions : List ℕ) (d : ℕ) where
       let code : length instructions % 2 ≡ 0 = eqb-true _ _ e.0 in
       let places : length regions % 3 ≡ 0 = eqb-true _ _ e.1 in
       record { whole_code = omega arith; whole_regions = omega arith; limits = limits-hold _ _ _ _ e.2 }
+
+  -- ---- the tests in their order
+  pub counts-fail : (room : ℕ) → counts_ok m instructions regions d ≡ false → write_refusal m instructions regions d room ≡ refused out_of_limits 0
+  unfolding write_refusal
+  counts-fail room h = rw h
+
+  -- of counts that pass, n and r, of what the tests of the entries found, the filled sum and where the data begins
+  pub write-tests : (room : ℕ) {n r : ℕ} {in_code in-regions : Refusal} {total at : ℕ} → counts_ok m instructions regions d ≡ true
+      → n ≡ instruction_count instructions → r ≡ region_count regions
+      → in_code ≡ code_refusal (bytes_of instructions) n m → in-regions ≡ region_refusal (bytes_of regions) r m
+      → total ≡ filled_sum (bytes_of regions) r → at ≡ data_at n r
+      → write_refusal m instructions regions d room
+      ≡ or_else (or_else in_code (or_else in-regions (unless (eqb total d) wrong_sum accepted))) (unless (leb (at + d) room) no_room accepted)
+  unfolding write_refusal entries_refusal
+  write-tests room h en er e5 e6 e7 e12 = rw (h, ← en, ← er, ← e5, ← e6, ← e7, ← e12)
 
   -- nothing refused
   pub record Allowed (room : ℕ) : Type 0 where
