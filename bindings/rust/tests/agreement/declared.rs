@@ -1,4 +1,4 @@
-//! What the binding declares and `capi_c` exports, read from their texts.
+//! What the binding declares, `capi` defines and `capi_c` exports, read from their texts.
 
 use std::collections::BTreeMap;
 
@@ -100,8 +100,17 @@ fn lent(name: &str, kind: &str, numbers: &Numbers) -> Vec<(String, Passed)> {
     vec![(name.to_string(), Passed::Pointer { constant, element }), size]
 }
 
-/// The exported functions of crates/capi_c/src/lib.rt.
+/// The public functions of crates/capi/src/lib.rt.
 pub fn by_capi(text: &str) -> Functions {
+    by_rattle(text, "pub fn ")
+}
+
+/// The exported functions of crates/capi_c/src/lib.rt.
+pub fn by_exports(text: &str) -> Functions {
+    by_rattle(text, "pub extern \"C\" fn ")
+}
+
+fn by_rattle(text: &str, start: &str) -> Functions {
     let numbers = constants(text);
     let function = |Signature { name: symbol, parameters, answer, .. }| {
         let parameters = parameters.iter().flat_map(|&(name, kind)| lent(name, kind, &numbers));
@@ -109,5 +118,5 @@ pub fn by_capi(text: &str) -> Functions {
         let function = Function { parameters, answer: str::to_string(answer) };
         (str::to_string(symbol), function)
     };
-    signatures(text, "pub extern \"C\" fn ").into_iter().map(function).collect()
+    signatures(text, start).into_iter().map(function).collect()
 }

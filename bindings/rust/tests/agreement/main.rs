@@ -44,10 +44,12 @@ fn every_number_of_the_header_is_the_bindings() {
 fn every_call_of_the_header_is_declared_so_by_the_binding_and_by_capi() {
     let header = header();
     let rust = declared::by_the_binding(include_str!("../../src/sys.rs"), &header.numbers);
-    let rattle = declared::by_capi(&crate_text(EXPORTS));
+    let rattle = declared::by_capi(&crate_text(CAPI));
+    let exported = declared::by_exports(&crate_text(EXPORTS));
     assert_eq!(header.functions.len(), 6);
     assert_eq!(header.functions, rust);
     assert_eq!(header.functions, rattle);
+    assert_eq!(header.functions, exported);
 }
 
 #[test]
