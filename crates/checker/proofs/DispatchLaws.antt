@@ -210,3 +210,6 @@ module _ {i j : Instruction} {c t : Counts} {regs regs_v mem mem_v mem_a l outpu
 pub by-counts : {i : Instruction} → i ≡ Stop → (c t : Counts) (p : Parts) (l outputs : List ℕ) → t ≡ moved (c.index + 1) 0 c
     → world t p l outputs ≡ stepped i (world c p l outputs)
 by-counts e c t p l outputs h = rw e (stop-law c t p l outputs h)
+
+-- what each case of `dispatch::step` asks for and gives
+pub ruleset stepping = (fits-some, fits-memory, told_move, told, told-jump, told-emit, told-mark, told-stop, by-registers, by-use, by-output, by-marks, by-counts)

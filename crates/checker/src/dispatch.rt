@@ -147,6 +147,7 @@ fn accesses(
 
 // ---- the step
 // Of the instruction at the index, whose op is given.
+#[tactic(auto, using(crate::proofs::DispatchLaws::stepping), unfolding(image::specs::Encoding::op_of, image::specs::Encoding::mark_op))]
 pub fn step(
     c: Counts,
     op: u8,
