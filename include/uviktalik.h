@@ -8,7 +8,7 @@
  *   uviktalik_command  hands an output that was made on as a damper command, or as blocked
  *
  * `tools/build capi` proves and builds them into target/staticlib/libcapi.a. They need no other
- * library but the C library's memset and memcpy, allocate nothing and keep nothing between calls,
+ * library but the C library's memset and memmove, allocate nothing and keep nothing between calls,
  * so threads may call at the same time, each with buffers of its own. examples/embed.c,
  * assemble.c and damper.c are whole programs.
  *
@@ -34,9 +34,9 @@
  *   - No pointer is null, not even beside a size of 0. As the library is built now, NULL beside a
  *     size of 0 does what any other pointer does there: it is not followed, and the compiler was
  *     not told that pointers are not null. The gate tries it (tests/null.c); no proof speaks of it.
- *   - There is stack enough. As built now, and measured, not proved, a run takes 1,208 bytes
- *     besides its arguments, beginning 616, reading 248, writing 232 and a command 16, whatever
- *     the sizes are, and what memset and memcpy take. A program that binds these two only when they
+ *   - There is stack enough. As built now, and measured, not proved, a run takes 1,008 bytes
+ *     besides its arguments, beginning 496, reading 224, writing 224 and a command 16, whatever
+ *     the sizes are, and what memset and memmove take. A program that binds these two only when they
  *     are first called needs some 3,000 bytes more for that.
  */
 #ifndef UVIKTALIK_H

@@ -1,7 +1,10 @@
 -- What the calls leave, one after the other, is what the series of demand 3 speaks of; so the claim is about them, and so is what is said of register 15.
 use Prim.Native.Nat.{ℕ}
-use mathlib.Core.Path.{◌≡◌, sym, ap, ◌∙◌, subst}
+use mathlib.Core.Path.{◌≡◌, refl, sym, ap, ◌∙◌, subst}
 use mathlib.Core.List.{List, [], ◌∷◌}
+use borrow.Author.Tests.{eq-eqb}
+use Rattle.std.specs.Prelude.{Result, Ok, Err, IfOk}
+use Rattle.image.proofs.Tests.{apart}
 use Rattle.machine.specs.Machine.{World, program_of}
 use Rattle.machine.specs.Lists.{output_places}
 use Rattle.machine.specs.Bare.{bare_begun}
@@ -12,15 +15,19 @@ use Rattle.soundness.specs.Claim.{Claim, Demand3}
 use Rattle.soundness.proofs.Theorem.{demand-3}
 use Rattle.soundness.proofs.Frame.{frame-kept}
 use Rattle.checker.specs.declared.State.{State}
-use Rattle.checker.specs.Views.{world_of}
+use Rattle.checker.specs.declared.Ran.{Ran}
+use Rattle.checker.specs.declared.refusals.Refusal.{Refusal}
+use Rattle.checker.specs.Refusals.{number_of}
+use Rattle.checker.specs.Views.{world_of, began_of, ran_of}
+use Rattle.checker.proofs.RefusalLaws.{refuses}
 use Rattle.assured.specs.Assured.{Held, Interface, RunCalls, Assured, FrameAssured}
 use Rattle.assured.specs.Library as lib
 use Rattle.assured.specs.ForC as c
 
--- ---- for any two calls: what each leaves is what the answers of the crate `machine` leave
+-- ---- for any two calls: what an accepted beginning and each run leave is what the answers of the crate `machine` leave
 pub record Answers (calls : Interface) : Type 1 where
-  pub begins : (s regs mem mem_v mem_a : List ℕ) (number : ℕ) (h : Held calls.State) → calls.Begins s regs mem mem_v mem_a number h
-      → ((begin_answer s regs mem mem_v mem_a).refusal.number ≡ number)
+  pub begins : (s regs mem mem_v mem_a : List ℕ) (h : Held calls.State) → calls.Begins s regs mem mem_v mem_a 0 h
+      → ((begin_answer s regs mem mem_v mem_a).refusal.number ≡ 0)
       × (calls.world h ≡ started_with (calls.world h).report_list (calls.world h).output_list (begin_answer s regs mem mem_v mem_a))
   pub runs : (s : List ℕ) (h : Held calls.State) (budget : ℕ) (h' : Held calls.State) → calls.Runs s h budget h' → calls.world h' ≡ (run_answer s (calls.world h) budget).world
 
@@ -37,7 +44,7 @@ module _ (calls : Interface) (answers : Answers calls) where
   pub assured-by : Assured calls
   unfolding Assured Demand3
   assured-by s b regs mem mem_v mem_a hr hm h call regs' mem' hr' hm' frame budgets h' made =
-      let begun = answers.begins s regs mem mem_v mem_a 0 h call in
+      let begun = answers.begins s regs mem mem_v mem_a h call in
       let reports = (calls.world h).report_list in
       let outputs = (calls.world h).output_list in
       let places = output_places outputs in
@@ -51,23 +58,37 @@ module _ (calls : Interface) (answers : Answers calls) where
       record {
         kept = λ s b h budgets h' made. subst (FrameKept (calls.world h)) (sym (calls-after s h budgets h' made)) (frame-kept.kept s b (calls.world h) budgets);
         from_beginning = λ s b regs mem mem_v mem_a h call budgets h' made.
-            let begun = answers.begins s regs mem mem_v mem_a 0 h call in
+            let begun = answers.begins s regs mem mem_v mem_a h call in
             let started = ap (λ (w : World). checker_after s w budgets) begun.1 in
             let given = frame-kept.from_beginning s b regs mem mem_v mem_a begun.0 (calls.world h).report_list (calls.world h).output_list budgets in
             subst (FrameAsGiven regs) (sym (calls-after s h budgets h' made ∙ started)) given;
       }
 
 -- ---- the calls of the crate `checker`
+-- a beginning that told 0 answered a state
+begun-by : (r : Result State Refusal) (h : Held State) (x : BeginAnswer) → lib.number_told r ≡ 0 → IfOk r (λ state. h.state ≡ state)
+    → began_of r h.mem h.vbits h.abits ≡ x
+    → (x.refusal.number ≡ 0) × (lib.held_world h ≡ started_with h.reports h.outputs x)
+begun-by (Ok state) h x told goes_on e = (
+  ap (λ (y : BeginAnswer). y.refusal.number) (sym e),
+  ap (λ (y : State). world_of y h.mem h.vbits h.abits h.reports h.outputs) goes_on ∙ ap (started_with h.reports h.outputs) e,
+)
+begun-by (Err e) h x told goes_on f = apart (sym (eq-eqb (number_of e) 0 told) ∙ refuses e)
+
+-- a run leaves the state that goes on
+left-by : (given : State) (r : Result Ran Refusal) (mem mem_v mem_a reports outputs : List ℕ)
+    → world_of (lib.state_after given r) mem mem_v mem_a reports outputs ≡ (ran_of given r mem mem_v mem_a reports outputs).world
+left-by given (Ok ran) mem mem_v mem_a reports outputs = refl
+left-by given (Err e) mem mem_v mem_a reports outputs = refl
+
 answers-of-library : Answers lib.library
 answers-of-library =
     record {
-      begins = λ s regs mem mem_v mem_a number h call.
-          let answered = call.contract ∙ ap (λ (x : List ℕ). begin_answer s x mem mem_v mem_a) call.values in (
-            ap (λ (x : BeginAnswer). x.refusal.number) (sym answered) ∙ call.told,
-            ap (λ (x : State). world_of x h.mem h.vbits h.abits h.reports h.outputs) call.goes_on ∙ ap (started_with h.reports h.outputs) answered,
-          );
+      begins = λ s regs mem mem_v mem_a h call.
+          begun-by call.answer h _ call.told call.goes_on (call.contract ∙ ap (λ (x : List ℕ). begin_answer s x mem mem_v mem_a) call.values);
       runs = λ s h budget h' call.
           ap (λ (x : State). world_of x h'.mem h'.vbits h'.abits h'.reports h'.outputs) call.goes_on
+          ∙ left-by h.state call.answer h'.mem h'.vbits h'.abits h'.reports h'.outputs
           ∙ ap (λ (x : RunAnswer). x.world) call.contract;
     }
 
@@ -81,7 +102,7 @@ frame-assured = frame-by lib.library answers-of-library
 answers-for-c : Answers c.for_c
 answers-for-c =
     record {
-      begins = λ s regs mem mem_v mem_a number h call. (
+      begins = λ s regs mem mem_v mem_a h call. (
         ap (λ (x : BeginAnswer). x.refusal.number) (sym call.contract),
         ap (started_with h.reports h.outputs) call.contract,
       );

@@ -1,25 +1,30 @@
 -- A damper command for C: its kind, 0 when refused, by numbers of our own (include/uviktalik.h), and the bits of its rate, or its port if it is blocked.
-use Rattle.std.specs.Prelude.{ℕ, List, [], ◌∷◌}
+use Rattle.std.specs.Prelude.{ℕ, List, [], ◌∷◌, Ok, Err}
 use Rattle.std.specs.Float.{binary32}
 use Rattle.std.specs.Float.Ieee.{to_bits}
+use Rattle.commands.specs.declared.Command.{Command}
 use Rattle.commands.specs.declared.Command.TheVariants.{Bump, Rebound, Preload, Blocked}
-use Rattle.commands.specs.declared.Answer.{Answer}
-use Rattle.commands.specs.declared.Answer.TheVariants.{Handed, Refused}
-use Rattle.commands.specs.Answers.{refusal_number}
+use Rattle.commands.specs.Answers.{Answer, refusal_number}
+
+abbrev pub command_kind : Command → ℕ
+command_kind (Bump rate) = 1
+command_kind (Rebound rate) = 2
+command_kind (Preload rate) = 3
+command_kind (Blocked port) = 4
 
 abbrev pub kind_of : Answer → ℕ
-kind_of (Handed (Bump rate)) = 1
-kind_of (Handed (Rebound rate)) = 2
-kind_of (Handed (Preload rate)) = 3
-kind_of (Handed (Blocked port)) = 4
-kind_of Refused = 0
+kind_of (Ok command) = command_kind command
+kind_of (Err refusal) = 0
+
+abbrev pub command_bits : Command → ℕ
+command_bits (Bump rate) = to_bits binary32 rate
+command_bits (Rebound rate) = to_bits binary32 rate
+command_bits (Preload rate) = to_bits binary32 rate
+command_bits (Blocked port) = port
 
 abbrev pub bits_of : Answer → ℕ
-bits_of (Handed (Bump rate)) = to_bits binary32 rate
-bits_of (Handed (Rebound rate)) = to_bits binary32 rate
-bits_of (Handed (Preload rate)) = to_bits binary32 rate
-bits_of (Handed (Blocked port)) = port
-bits_of Refused = 0
+bits_of (Ok command) = command_bits command
+bits_of (Err refusal) = 0
 
 -- the number that the call returns, and what it leaves in its two places
 abbrev pub answer_words : Answer → List ℕ

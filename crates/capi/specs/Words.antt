@@ -2,8 +2,7 @@
 -- outputs and reports; and where the code of an image lies.
 use Rattle.std.specs.Prelude.{ℕ, ◌*◌, cond, List, [], ◌∷◌, get_or, eqb}
 use Rattle.image.specs.Format.{registers, header_size, instruction_size, part_of}
-use Rattle.image.specs.Refusals.{refused}
-use Rattle.image.specs.declared.Header.{Header}
+use Rattle.image.specs.Refusals.{Reading, refused}
 use Rattle.machine.specs.Machine.{Parts, parts, Counts, World}
 use Rattle.machine.specs.Calls.{Began, Ran}
 use Rattle.writer.specs.Writing.{Written}
@@ -31,7 +30,7 @@ abbrev pub world_in : (state mem mem_v mem_a reports outputs : List ℕ) → Wor
 world_in state mem mem_v mem_a reports outputs = record { parts = parts_in state mem mem_v mem_a; counts = counts_in state; report_list = reports; output_list = outputs }
 
 -- what a call answers: the number that it returns, and what it leaves in the buffers
-abbrev pub header_in : (number fault : ℕ) (header : List ℕ) → Header
+abbrev pub header_in : (number fault : ℕ) (header : List ℕ) → Reading
 header_in number fault header = record { m = get_or header 0 0; n = get_or header 1 0; r = get_or header 2 0; d = get_or header 3 0; refusal = refused number fault }
 
 abbrev pub began_in : (number fault : ℕ) (state mem mem_v mem_a : List ℕ) → Began
@@ -48,5 +47,5 @@ written_in number fault size out = record { refusal = refused number fault; size
 abbrev pub code_start : ℕ → ℕ
 code_start number = cond (eqb number 0) header_size 0
 
-abbrev pub code_range : Header → List ℕ
+abbrev pub code_range : Reading → List ℕ
 code_range h = code_start h.refusal.number ∷ instruction_size * h.n ∷ []

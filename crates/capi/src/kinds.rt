@@ -1,4 +1,4 @@
-// The kinds of damper command (02, L7), as C has them: 0 is that of a refused call.
+// The kinds of damper command (02, L7), numbers as C has them: 0 is that of a refused call.
 pub const NONE: u8 = 0;
 
 pub const BUMP: u8 = 1;

@@ -6,22 +6,21 @@
 // does not link.
 #![tactic(auto)]
 
-ghost use Rattle.std.specs.Prelude.{◌≡◌, ◌+◌, ◌≤◌, get_or};
+ghost use Rattle.std.specs.Prelude.{◌≡◌, ◌+◌, ◌≤◌, Ok};
 ghost use Rattle.image.specs.Format.{registers as register_count, part_of};
-ghost use Rattle.machine.specs.Ranges.{written};
 ghost use Rattle.commands.specs.Answers.{RateIsNumber};
-ghost use Rattle.capi.specs.Words.{version, state_size, code_start};
-ghost use Rattle.capi.specs.Commands.{kind_of, bits_of};
+ghost use Rattle.capi.specs.Words.{version, state_size};
+ghost use Rattle.capi.specs.Commands.{command_kind, command_bits};
 ghost use Rattle.capi.specs.Pieces.{Holds};
 ghost use Rattle.capi.specs.Promises.{ReadPromise, BeginPromise, RunPromise, WritePromise, CommandPromise};
 
 use checker::{Counts, State};
-use commands::{Answer, Command, outputs};
+use commands::{Command, outputs};
 use flat::registers;
 use image::format;
-use image::refusals::ACCEPTED;
 
 mod kinds; // kinds.rt: the numbers of the damper commands
+mod none; // none.rt: the numbers of no refusal and of no stop reason
 
 // The number at the end of the calls' names. It goes up when their parameters change, or the words of
 // a state, or those of a list's entry, or a limit.
@@ -49,26 +48,8 @@ fn sixteen(state: [u32; STATE], at: usize) -> [u32; 16]
     ensures { result ≡ part_of state at register_count }
 {
     let mut words = [0; 16];
-    let mut k = 0;
-    while k < 16 {
-        words[k] = state[at + k];
-        k += 1;
-    }
+    words.copy_from_slice(&state[at..at + 16]);
     words
-}
-
-// A state's words with sixteen of them replaced.
-fn with_sixteen(state: [u32; STATE], at: usize, words: [u32; 16]) -> [u32; STATE]
-    requires { at + register_count ≤ state_size }
-    ensures { result ≡ written (λ k. get_or words k 0) state at register_count }
-{
-    let mut put = state;
-    let mut k = 0;
-    while k < 16 {
-        put[at + k] = words[k];
-        k += 1;
-    }
-    put
 }
 
 fn state_in(state: [u32; STATE]) -> State
@@ -81,8 +62,8 @@ fn state_in(state: [u32; STATE]) -> State
         reports: state[REPORTS],
     };
     State {
-        regs: registers::data_of(sixteen(state, REGS)),
-        shadows: registers::shadows_of(sixteen(state, REGS_V)),
+        regs: registers::from_words(sixteen(state, REGS)),
+        shadows: registers::from_words(sixteen(state, REGS_V)),
         counts: counts,
     }
 }
@@ -90,61 +71,41 @@ fn state_in(state: [u32; STATE]) -> State
 fn words_of(s: State) -> [u32; STATE]
     ensures { Holds result s }
 {
-    let regs = s.regs;
-    let shadows = s.shadows;
     let c = s.counts;
-    let with_regs = with_sixteen([0; STATE], REGS, registers::data_words(regs));
-    let mut words = with_sixteen(with_regs, REGS_V, registers::shadow_words(shadows));
-    words[INDEX] = c.index;
-    words[STEPS] = c.steps;
-    words[OUTPUTS] = c.outputs;
-    words[REPORTS] = c.reports;
+    let mut words = [0; STATE];
+    words[REGS..REGS_V].copy_from_slice(&registers::to_words(s.regs));
+    words[REGS_V..INDEX].copy_from_slice(&registers::to_words(s.shadows));
+    words[INDEX..STATE].copy_from_slice(&[c.index, c.steps, c.outputs, c.reports]);
     words
-}
-
-// Where the code of an image begins; 0 when refused.
-fn code_start(number: u8) -> usize
-    ensures { result ≡ code_start number }
-{
-    if number == ACCEPTED {
-        return format::HEADER;
-    }
-    0
 }
 
 // ---- a damper command and its numbers
 // Its kind.
-fn kind_of(answer: Answer) -> u8
-    ensures { result ≡ kind_of answer }
+fn kind_of(command: Command) -> u8
+    ensures { result ≡ command_kind command }
 {
-    match answer {
-        Answer::Handed(command) => match command {
-            Command::Bump(_) => kinds::BUMP,
-            Command::Rebound(_) => kinds::REBOUND,
-            Command::Preload(_) => kinds::PRELOAD,
-            Command::Blocked(_) => kinds::BLOCKED,
-        },
-        Answer::Refused => kinds::NONE,
+    match command {
+        Command::Bump(_) => kinds::BUMP,
+        Command::Rebound(_) => kinds::REBOUND,
+        Command::Preload(_) => kinds::PRELOAD,
+        Command::Blocked(_) => kinds::BLOCKED,
     }
 }
 
 // The bits of its rate; the port, if it is blocked.
-fn bits_of(answer: Answer) -> u32
-    requires { RateIsNumber answer }
-    ensures { result ≡ bits_of answer }
+fn bits_of(command: Command) -> u32
+    requires { RateIsNumber (Ok command) }
+    ensures { result ≡ command_bits command }
 {
-    match answer {
-        Answer::Handed(command) => match command {
-            Command::Bump(rate) => f32::to_bits(rate),
-            Command::Rebound(rate) => f32::to_bits(rate),
-            Command::Preload(rate) => f32::to_bits(rate),
-            Command::Blocked(port) => port,
+    match command {
+        Command::Bump(rate) | Command::Rebound(rate) | Command::Preload(rate) => {
+            f32::to_bits(rate)
         },
-        Answer::Refused => 0,
+        Command::Blocked(port) => port,
     }
 }
 
-// ---- the calls
+// ---- the calls, with the parameters that C has
 // The version, for a program that loads the library while it runs. Its own name has none, and stays.
 pub fn uviktalik_version() -> u32
     ensures { result ≡ version }
@@ -162,13 +123,20 @@ pub fn uviktalik_read_2(
 ) -> u8
     ensures { ReadPromise image.now result header.new code.new fault.new }
 {
-    let found = image::read(image);
-    let refusal = found.refusal;
-    let size = format::INSTRUCTION * found.n as usize;
-    *header = [found.m, found.n, found.r, found.d];
-    *code = [code_start(refusal.number), size];
-    *fault = refusal.index;
-    refusal.number
+    match image::read(image) {
+        Ok(found) => {
+            *header = [found.m, found.n, found.r, found.d];
+            *code = [format::HEADER, format::INSTRUCTION * found.n as usize];
+            *fault = 0;
+            none::ACCEPTED
+        },
+        Err(refusal) => {
+            *header = [0; 4];
+            *code = [0; 2];
+            *fault = refusal.index();
+            refusal.number()
+        },
+    }
 }
 
 // Begins a program, as `checker::begin` does: the state's words to state, the index at fault to
@@ -184,12 +152,19 @@ pub fn uviktalik_begin_2(
 ) -> u8
     ensures { BeginPromise image.now regs.now mem.old vbits.old abits.old result mem.new vbits.new abits.new state.new fault.new }
 {
-    let began = checker::begin(image, registers::data_of(*regs), mem, vbits, abits);
-    let refusal = began.refusal;
-    let begun = began.state;
-    *state = words_of(begun);
-    *fault = refusal.index;
-    refusal.number
+    let began = checker::begin(image, registers::from_words(*regs), mem, vbits, abits);
+    match began {
+        Ok(begun) => {
+            *state = words_of(begun);
+            *fault = 0;
+            none::ACCEPTED
+        },
+        Err(refusal) => {
+            *state = [0; STATE];
+            *fault = refusal.index();
+            refusal.number()
+        },
+    }
 }
 
 // Runs a program from a state, as `checker::run` does: the state's words are taken from state and
@@ -210,13 +185,19 @@ pub fn uviktalik_run_2(
     ensures { RunPromise image.now state.old mem.old vbits.old abits.old reports.old outputs.old budget result state.new mem.new vbits.new abits.new reports.new outputs.new reason.new fault.new }
 {
     let given = state_in(*state);
-    let ran = checker::run(image, given, mem, vbits, abits, reports, outputs, budget);
-    let refusal = ran.refusal;
-    let end = ran.state;
-    *state = words_of(end);
-    *reason = ran.reason;
-    *fault = refusal.index;
-    refusal.number
+    match checker::run(image, given, mem, vbits, abits, reports, outputs, budget) {
+        Ok(ran) => {
+            *state = words_of(ran.state);
+            *reason = ran.reason.number();
+            *fault = 0;
+            none::ACCEPTED
+        },
+        Err(refusal) => {
+            *reason = none::REASON;
+            *fault = refusal.index();
+            refusal.number()
+        },
+    }
 }
 
 // Writes an image, as `writer::write` does: how many bytes it has to size, 0 when refused, the index at
@@ -232,11 +213,18 @@ pub fn uviktalik_write_2(
 ) -> u8
     ensures { WritePromise m instructions.now regions.now «data».now out.old result out.new size.new fault.new }
 {
-    let wrote = writer::write(m, instructions, regions, data, out);
-    let refusal = wrote.refusal;
-    *size = wrote.size;
-    *fault = refusal.index;
-    refusal.number
+    match writer::write(m, instructions, regions, data, out) {
+        Ok(written) => {
+            *size = written;
+            *fault = 0;
+            none::ACCEPTED
+        },
+        Err(refusal) => {
+            *size = 0;
+            *fault = refusal.index();
+            refusal.number()
+        },
+    }
 }
 
 // Hands an output that was made on as a damper command, as `commands::outputs::command` does: its kind
@@ -245,8 +233,16 @@ pub fn uviktalik_write_2(
 pub fn uviktalik_command_2(outputs: &[u32], number: usize, kind: &mut u8, bits: &mut u32) -> u8
     ensures { CommandPromise outputs.now number result kind.new bits.new }
 {
-    let answer = outputs::command(outputs, number);
-    *kind = kind_of(answer);
-    *bits = bits_of(answer);
-    outputs::refusal_number(answer)
+    match outputs::command(outputs, number) {
+        Ok(command) => {
+            *kind = kind_of(command);
+            *bits = bits_of(command);
+            none::ACCEPTED
+        },
+        Err(refusal) => {
+            *kind = kinds::NONE;
+            *bits = 0;
+            refusal.number()
+        },
+    }
 }

@@ -1,5 +1,6 @@
 // The calls by C's calling convention: each calls the function of `capi` of its name and promises what
-// that one promises. The names are the symbols that a program is linked by (include/uviktalik.h).
+// that one promises. They stand twice, since a crate is a library or an archive for C, and not both. The
+// names are the symbols that a program is linked by (include/uviktalik.h).
 #![tactic(auto)]
 
 ghost use Rattle.std.specs.Prelude.{◌≡◌};

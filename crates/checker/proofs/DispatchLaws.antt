@@ -1,12 +1,10 @@
 -- Laws of the dispatch: the instruction that the fields make, by the op that a match has found; what the function of its group asks for follows from what
 -- is known of it, and what it promises is its step.
-use Prim.Native.Nat.{ℕ, ◌+◌, ◌<◌}
+use Prim.Native.Nat.{ℕ, ◌<◌}
 use mathlib.Core.Path.{◌≡◌, refl, sym, ap, ◌∙◌, subst}
-use mathlib.Core.Logic.{inl, inr, ⊎_elim}
 use mathlib.Core.Bool.{Bool, true, false, not, ◌||◌}
-use mathlib.Core.List.{List, [], ◌∷◌}
+use mathlib.Core.List.{List}
 use lib.Dec.{eqb}
-use types.Run.{OneOf}
 use borrow.Author.Tests.{eqb-true, ne_eqb}
 use Rattle.rules.specs.declared.Operation.{Operation}
 use Rattle.image.specs.Rows.{row_of, literal_mark, range_start, range_length, operand_of, built, Fields, fields_at}
@@ -14,58 +12,17 @@ use Rattle.image.specs.Encoding.{op_of, ops, load_op, store_op, mark_op}
 use Rattle.image.specs.declared.Operand.TheVariants.{Register, Literal}
 use Rattle.image.specs.declared.Width.{Width}
 use Rattle.image.specs.declared.Widening.{Widening}
-use Rattle.image.proofs.Tests.{apart, either, every-below}
+use Rattle.image.proofs.Tests.{apart, every-below}
 use Rattle.image.proofs.EncodingLaws.{row-of-op, row-of-load, row-of-store, row-of-mark}
 use Rattle.image.specs.declared.Instruction.{Instruction}
 use Rattle.image.specs.declared.Instruction.TheVariants.{Stop, Move, Compute, Load, Store, Jump, Emit, Mark}
-use Rattle.machine.specs.Machine.{Parts, parts}
-use Rattle.machine.specs.Checker.{stepped}
-use Rattle.checker.specs.declared.Counts.{Counts}
-use Rattle.checker.specs.Views.{world}
-use Rattle.checker.specs.Pieces.{moved, StepsRegisters, StepsParts, StepsUse, StepsOutput, StepsMarks, FitsMemory, FitsSome, standing, move_at, compute_at, mark_at, ByteIs, ImmIs, one_of, load_ops, store_ops, IsAccess, width_of, widening_of}
-use Rattle.checker.proofs.GroupLaws.{stop-law}
+use Rattle.checker.specs.declared.step.Machine.{Machine}
+use Rattle.checker.specs.Pieces.{MayStep, Steps, standing, move_at, compute_at, mark_at, ByteIs, ImmIs, one_of, load_ops, store_ops, IsAccess, width_of, widening_of}
 
--- ---- what is left when a match has found none of its keys, the last of them first
-abbrev NoneOf : List (List ℕ) → ℕ → Type 0
-NoneOf [] op = Unit
-NoneOf (k ∷ ks) op = NoneOf ks op × (OneOf k op → ⊥)
-
-among : List (List ℕ) → ℕ → Bool
-among [] op = false
-among (k ∷ ks) op = among ks op || one_of k op
-
-is_one : (ks : List ℕ) (op : ℕ) → one_of ks op ≡ true → OneOf ks op
-is_one [] op h = apart (sym h)
-is_one (k ∷ []) op h = ⊎_elim (λ (e : eqb op k ≡ true). eqb-true op k e) (λ e. apart (sym e)) (either (eqb op k) false h)
-is_one (k ∷ l ∷ ks) op h = ⊎_elim (λ (e : eqb op k ≡ true). inl (eqb-true op k e)) (λ e. inr (is_one (l ∷ ks) op e)) (either (eqb op k) (one_of (l ∷ ks) op) h)
-
-none-among : (ks : List (List ℕ)) (op : ℕ) → NoneOf ks op → among ks op ≡ true → ⊥
-unfolding among
-none-among [] op r h = apart (sym h)
-none-among (k ∷ ks) op r h = ⊎_elim (λ e. none-among ks op r.0 e) (λ e. r.1 (is_one k op e)) (either (among ks op) (one_of k op) h)
-
--- the keys of the dispatch: every op but those of loads and stores
-abbrev one : ℕ → List ℕ
-one op = op ∷ []
-
-abbrev keys : List (List ℕ)
-keys = one 20 ∷ one 19 ∷ one 18 ∷ one 17 ∷ one 12 ∷ one 11 ∷ one 10 ∷ one 9 ∷ one 8 ∷ one 7 ∷ one 6 ∷ one 5 ∷ one 4 ∷ one 3 ∷ one 2 ∷ one 1 ∷ one 0 ∷ []
-
-covered : ℕ → Bool
-covered op = (one_of store_ops op || one_of load_ops op) || among keys op
-
--- what is left is a load or a store
+-- an op that is one of two lists and not of the first is of the second
 other : (s t : Bool) → (s || t) ≡ true → s ≡ false → t ≡ true
 other true t h e = apart e
 other false t h e = h
-
-pub is-access : {op : ℕ} → op < ops → NoneOf keys op → IsAccess op
-unfolding among covered
-is-access {op} l r =
-    ⊎_elim
-    (λ (e : (one_of store_ops op || one_of load_ops op) ≡ true). record { known = l; listed = λ n. other (one_of store_ops op) (one_of load_ops op) e n })
-    (λ (e : among keys op ≡ true). absurd (none-among keys op r e))
-    (either (one_of store_ops op || one_of load_ops op) (among keys op) (every-below covered ops refl op l))
 
 -- the op of a load or store is the number of its width and widening: tried on each op
 loads : ℕ → Bool
@@ -168,48 +125,14 @@ module _ {code : List ℕ} {index d b : ℕ} (first : ByteIs code index 1 d) (la
     unfolding compute_at
     compute-register n = rw (first.same, second.same, is-register n) refl
 
-module _ {i j : Instruction} (e : i ≡ j) where
-  pub fits-as : FitsSome i → FitsSome j
-  fits-as f = subst FitsSome e f
+module _ {i j : Instruction} (e : i ≡ j) {m : Machine} where
+  -- what a group asks for
+  pub may-as : MayStep i m → MayStep j m
+  may-as f = subst (λ (k : Instruction). MayStep k m) e f
 
-  pub parts-as : {c t : Counts} {p p' : Parts} {l l' : List ℕ} → StepsParts j c p l t p' l' → StepsParts i c p l t p' l'
-  parts-as s = rw e s
+  -- and what it promises
+  pub steps-as : {m' : Machine} → Steps j m m' → Steps i m m'
+  steps-as {m'} s = subst (λ (k : Instruction). Steps k m m') (sym e) s
 
-  pub marks-as : {c t : Counts} {mem_v mem_a mem_v' mem_a' : List ℕ} → StepsMarks j c mem_v mem_a t mem_v' mem_a' → StepsMarks i c mem_v mem_a t mem_v' mem_a'
-  marks-as s = rw e s
-
-  pub steps-as : {c t : Counts} {regs regs_v regs' regs_v' : List ℕ} → StepsRegisters j c regs regs_v t regs' regs_v' → StepsRegisters i c regs regs_v t regs' regs_v'
-  steps-as s = rw e s
-
--- ---- what a group asks for
-pub fits-memory : (i j : Instruction) (m : ℕ) → FitsMemory m i → i ≡ j → FitsMemory m j
-fits-memory i j m f e = subst (FitsMemory m) e f
-
-pub fits-some : (i j : Instruction) (m : ℕ) → FitsMemory m i → i ≡ j → FitsSome j
-fits-some i j m f e = record { memory = m; fitting = fits-memory i j m f e }
-
--- ---- what it promises
-module _ {i j : Instruction} {c t : Counts} {regs regs_v mem mem_v mem_a l outputs : List ℕ} where
-  pub by-registers : {regs' regs_v' : List ℕ} → StepsRegisters j c regs regs_v t regs' regs_v' → i ≡ j
-      → world t (parts regs' regs_v' mem mem_v mem_a) l outputs ≡ stepped i (world c (parts regs regs_v mem mem_v mem_a) l outputs)
-  by-registers s e = rw e (s.taken mem mem_v mem_a l outputs)
-
-  pub by-use : {regs_v' l' : List ℕ} → StepsUse j regs c regs_v l t regs_v' l' → i ≡ j
-      → world t (parts regs regs_v' mem mem_v mem_a) l' outputs ≡ stepped i (world c (parts regs regs_v mem mem_v mem_a) l outputs)
-  by-use s e = rw e (s.taken mem mem_v mem_a outputs)
-
-  pub by-output : {regs_v' l' outputs' : List ℕ} → StepsOutput j regs c regs_v l outputs t regs_v' l' outputs' → i ≡ j
-      → world t (parts regs regs_v' mem mem_v mem_a) l' outputs' ≡ stepped i (world c (parts regs regs_v mem mem_v mem_a) l outputs)
-  by-output s e = rw e (s.taken mem mem_v mem_a)
-
-  pub by-marks : {mem_v' mem_a' : List ℕ} → StepsMarks j c mem_v mem_a t mem_v' mem_a' → i ≡ j
-      → world t (parts regs regs_v mem mem_v' mem_a') l outputs ≡ stepped i (world c (parts regs regs_v mem mem_v mem_a) l outputs)
-  by-marks s e = rw e (s.taken regs regs_v mem l outputs)
-
--- STOP takes a step like any other, though a run never asks for it
-pub by-counts : {i : Instruction} → i ≡ Stop → (c t : Counts) (p : Parts) (l outputs : List ℕ) → t ≡ moved (c.index + 1) 0 c
-    → world t p l outputs ≡ stepped i (world c p l outputs)
-by-counts e c t p l outputs h = rw e (stop-law c t p l outputs h)
-
--- what each case of `dispatch::step` asks for and gives
-pub ruleset stepping = (fits-some, fits-memory, told_move, told, told-jump, told-emit, told-mark, told-stop, by-registers, by-use, by-output, by-marks, by-counts)
+-- what each case of `step` asks for and gives
+pub ruleset stepping = (may-as, steps-as, told_move, told, told-jump, told-emit, told-mark, told-stop)

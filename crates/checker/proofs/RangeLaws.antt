@@ -2,7 +2,7 @@
 use Prim.Native.Nat.{ℕ, zero, suc, ◌+◌, ◌*◌, ◌%◌, ◌^◌, ◌≤◌, ◌<◌}
 use mathlib.Core.Path.{◌≡◌, refl, sym, ap, ap₂, ◌∙◌}
 use mathlib.Core.Bool.{Bool, true, false, cond}
-use mathlib.Core.List.{List, [], ◌∷◌}
+use mathlib.Core.List.{List}
 use native.Mathlib.Omega.{arith}
 use native.Mathlib.Numerals.{add-one}
 use lib.ListN.{length, get_or, set, get_or-eq_default}
@@ -12,45 +12,14 @@ use borrow.Author.Tests.{eqb-true, eqb-false, eq-eqb}
 use Rattle.rules.specs.Bytes.{byte_of, placed, joined}
 use Rattle.rules.proofs.ByteLaws.{byte-joined, placed-word}
 use Rattle.image.specs.Words.{Bytes}
-use Rattle.image.proofs.Tests.{apart, both, every-below, all-every}
-use Rattle.image.specs.declared.Width.{Width}
-use Rattle.image.specs.declared.Width.TheVariants.{Byte, Half, Word}
+use Rattle.image.proofs.Tests.{both, every-below, all-every}
 use Rattle.machine.specs.Machine.{addressable_mark}
 use Rattle.machine.specs.Ranges.{is_addressable, all_addressable, loaded, loaded_where, written, stored, stored_where}
-use Rattle.machine.specs.Instructions.{bytes_of}
-use Rattle.machine.proofs.StepBounds.{length-stored}
 
 -- ---- one byte
 -- at M or beyond it is unaddressable
 pub beyond : (A : List ℕ) (at : ℕ) → length A ≤ at → is_addressable A at ≡ false
 beyond A at h = rw (get_or-eq_default A 0 h) refl
-
-pub addressable-below : (A : List ℕ) (at : ℕ) → is_addressable A at ≡ true → at < length A
-addressable-below [] at h = apart (sym h)
-addressable-below (x ∷ A) zero h = omega arith
-addressable-below (x ∷ A) (suc at) h = omega (arith, addressable-below A at h)
-
--- ---- an access
-pub some_bytes : (width : Width) → 1 ≤ bytes_of width
-some_bytes Byte = omega arith
-some_bytes Half = omega arith
-some_bytes Word = omega arith
-
--- if all bytes are addressable, so is the last
-last-below : (A : List ℕ) (at n : ℕ) → 1 ≤ n → all_addressable A at n ≡ true → at + n ≤ length A
-last-below A at zero some h = absurd (omega arith)
-last-below A at (suc n) some h = omega (arith, addressable-below A (at + n) (both (all_addressable A at n) (is_addressable A (at + n)) h).1)
-
-pub access-below : (A : List ℕ) (at : ℕ) (width : Width) → all_addressable A at (bytes_of width) ≡ true → at + bytes_of width ≤ length A
-access-below A at width h = last-below A at (bytes_of width) (some_bytes width) h
-
--- an access that reaches past the end is not addressable whole
-pub access-beyond : (A : List ℕ) (at n : ℕ) → 1 ≤ n → length A < at + n → all_addressable A at n ≡ false
-access-beyond A at n some h = go (all_addressable A at n) refl
-  where
-    go : (t : Bool) → all_addressable A at n ≡ t → all_addressable A at n ≡ false
-    go true e = absurd (omega (arith, last-below A at n some e))
-    go false e = e
 
 -- ---- what is loaded
 joined_same : (n : ℕ) (f g : ℕ → ℕ) → ((k : ℕ) → k < n → f k ≡ g k) → joined n f ≡ joined n g
@@ -106,9 +75,6 @@ stored-whole A x l at (suc n) h =
 pub none-stored : (A : List ℕ) (x : ℕ) (l : List ℕ) (at : ℕ) → l ≡ stored_where A x l at 0
 unfolding stored_where
 none-stored A x l at = refl
-
-pub same-stored : (A : List ℕ) (x : ℕ) (l s : List ℕ) (at k : ℕ) → s ≡ stored_where A x l at k → length s ≡ length l
-same-stored A x l s at k e = ap length e ∙ length-stored A x l at k
 
 pub more-stored : (A : List ℕ) (x : ℕ) (l s : List ℕ) (at k : ℕ) → s ≡ stored_where A x l at k
     → cond (is_addressable A (at + k)) (set s (at + k) (byte_of k x)) s ≡ stored_where A x l at (k + 1)

@@ -13,7 +13,7 @@ use Rattle.image.specs.Encoding.{ops}
 use Rattle.image.specs.Accepted.{Fits}
 use Rattle.image.specs.declared.Instruction.{Instruction}
 use Rattle.image.proofs.Tests.{every-below}
-use Rattle.machine.specs.Machine.{Parts, parts, World, Program, program_in}
+use Rattle.machine.specs.Machine.{World, Program, program_in}
 use Rattle.machine.specs.Instructions.{outputs_of}
 use Rattle.machine.specs.Steps.{reports_of}
 use Rattle.machine.specs.Lists.{output_size, output_places}
@@ -26,8 +26,11 @@ use Rattle.machine.proofs.CheckerLaws.{reason-goes}
 use Rattle.machine.proofs.ListLaws.{length-reports-entered, length-outputs-entered}
 use Rattle.machine.proofs.Continued.{step-runnable}
 use Rattle.checker.specs.declared.Counts.{Counts}
-use Rattle.checker.specs.Views.{world}
-use Rattle.checker.specs.Pieces.{MayStep, Ready, standing, ByteIs, CodeReads, MayTurn, reason_by, Reasons, Turned}
+use Rattle.checker.specs.declared.step.Machine.{Machine}
+use Rattle.checker.specs.declared.reasons.Reason.{Reason}
+use Rattle.checker.specs.declared.reasons.Reason.TheVariants.{Stopped, PastEnd, NoBudget, NoPlace}
+use Rattle.checker.specs.Reasons.{reason_number}
+use Rattle.checker.specs.Pieces.{world_in, MayStep, standing, ByteIs, CodeReads, MayTurn, reason_by, Reasons, Turned}
 
 -- ---- the stop reasons, by the op
 -- two answers of a test are the same
@@ -83,9 +86,9 @@ budget-by false false full left e = no-budget left e
 
 -- by where the index is
 module _ {code : List ℕ} {n places left : ℕ} {c : Counts} {r : ℕ} where
-  pub past-end : n ≤ c.index → r ≡ past_end → Reasons code n places left c r
+  pub at_end : n ≤ c.index → r ≡ past_end → Reasons code n places left c r
   unfolding reason_at
-  past-end past e =
+  at_end past e =
       record {
         told = λ m all. e ∙ rw (le-leb n c.index past) refl;
         budget = λ none. absurd (let z : ◌≡◌ {A = ℕ} past_end 0 = sym e ∙ none in omega arith);
@@ -104,13 +107,6 @@ module _ {code : List ℕ} {n places left : ℕ} {c : Counts} {r : ℕ} where
         budget = λ none. budget-by (eqb op 0) (eqb op 18) (leb places c.outputs) left (sym e ∙ none);
       }
 
-  -- a turn that goes on takes one of the budget
-  pub has_budget : Reasons code n places left c r → r ≡ 0 → 1 ≤ left
-  has_budget told none = told.budget none
-
-  pub takes-budget : Reasons code n places left c r → r ≡ 0 → left - 1 < left
-  takes-budget told none = omega (arith, told.budget none)
-
 -- ---- one step
 next-stepped : (program : Program) (w : World) → stepped (program.at w.counts.index) w ≡ next_of program w
 unfolding next_of
@@ -128,13 +124,6 @@ step-outputs : (i : Instruction) (w : World) → length (stepped i w).output_lis
 unfolding stepped
 step-outputs i w = length-outputs-entered w.counts.outputs (outputs_of i w.parts.regs) w.output_list
 
--- ---- a turn: it stays where there is a reason to stop, else it steps
-pub turn-stays : (i : Instruction) (reason : ℕ) (w : World) → (reason ≡ 0 → ⊥) → Turned i reason w w
-turn-stays i reason w some = record { steps = λ none. absurd (some none); stays = λ _. refl }
-
-pub turn-steps : (i : Instruction) (reason : ℕ) (w w' : World) → reason ≡ 0 → w' ≡ stepped i w → Turned i reason w w'
-turn-steps i reason w w' none e = record { steps = λ _. e; stays = λ some. absurd (some none) }
-
 -- ---- the loop
 -- the buffers and lists have the sizes that they had at the start
 pub record SameSizes (start w : World) : Type 0 where
@@ -151,32 +140,18 @@ pub record Going (program : Program) (m left₀ : ℕ) (start : World) (left : �
   pub within : w.counts.steps + left ≤ most_steps
   pub sizes : SameSizes start w
 
-pub begins : (program : Program) (m left : ℕ) (c : Counts) (p : Parts) (reports outputs : List ℕ) → Ready program.count m c p reports outputs left
-    → Going program m left (world c p reports outputs) left (world c p reports outputs)
-begins program m left c p reports outputs r =
-    record {
-      same = refl;
-      runnable = r.runnable;
-      within = r.within;
-      sizes = record { mem = refl; mem_v = refl; mem_a = refl; reports = refl; outputs = refl };
-    }
-
-module _ {code : List ℕ} {n m left₀ : ℕ} {start : World} {left : ℕ} {c : Counts} {regs regs_v mem mem_v mem_a reports outputs : List ℕ}
-    (g : Going (program_in code n m) m left₀ start left (world c (parts regs regs_v mem mem_v mem_a) reports outputs)) (all : CodeReads code n m) where
+module _ (now : Machine) {code : List ℕ} {n m left₀ : ℕ} {start : World} {left : ℕ} (g : Going (program_in code n m) m left₀ start left (world_in now)) (all : CodeReads code n m) where
   abbrev program : Program
   program = program_in code n m
 
-  abbrev now' : World
-  now' = world c (parts regs regs_v mem mem_v mem_a) reports outputs
-
   abbrev here : Instruction
-  here = standing code c.index
+  here = standing code now.counts.index
 
   -- ---- what a turn asks for
-  pub may-turn : n ≤ most_n → MayTurn code n c mem mem_v mem_a
-  may-turn few = record { there = λ below. (all c.index below).there; known = λ below. (all c.index below).known; may = may-step }
+  pub may_turn : n ≤ most_n → MayTurn code n now
+  may_turn few = record { there = λ below. (all now.counts.index below).there; known = λ below. (all now.counts.index below).known; may = may-step }
     where
-      may-step : c.index < n → MayStep c here mem mem_v mem_a
+      may-step : now.counts.index < n → MayStep here now
       may-step below =
           record {
             room =
@@ -189,38 +164,35 @@ module _ {code : List ℕ} {n m left₀ : ℕ} {start : World} {left : ℕ} {c :
                       };
                   reports = omega (arith, g.runnable.reports, g.within);
                 };
-            sizes = record { size = g.runnable.mem ∙ sym g.runnable.mem_a; size_v = g.runnable.mem_v ∙ sym g.runnable.mem_a; size_a = refl };
-            fits = record { count = n; fits = rw g.runnable.mem_a (all c.index below).fits };
+            count = n;
+            fits = rw g.runnable.mem_a (all now.counts.index below).fits;
           }
 
   -- ---- what it leaves
-  module _ {places found : ℕ} (place : places ≡ output_places start.output_list) (told : Reasons code n places left c found)
-      {w' : World} (turned : Turned here found now' w') where
+  module _ {places found : ℕ} (place : places ≡ output_places start.output_list) (told : Reasons code n places left now.counts found)
+      {w' : World} (turned : Turned here found (world_in now) w') where
     -- what the turn has looked at is the reason of the run
-    looked : found ≡ reason_of program left now'
+    looked : found ≡ reason_of program left (world_in now)
     unfolding reason_of
     looked =
         told.told m all
-        ∙ ap (λ (k : ℕ). reason_at program k left c.index c.outputs) (place ∙ ap (λ (k : ℕ). k / output_size) (sym g.sizes.outputs))
+        ∙ ap (λ (k : ℕ). reason_at program k left now.counts.index now.counts.outputs) (place ∙ ap (λ (k : ℕ). k / output_size) (sym g.sizes.outputs))
 
     -- there is one: the run ends here, and nothing has changed
-    pub stays : (found ≡ 0 → ⊥) → SameSizes start w'
-    stays some = subst (SameSizes start) (sym (turned.stays some)) g.sizes
-
     pub ends : (found ≡ 0 → ⊥) → ended found w' ≡ run_of program left₀ start
     ends some = ap (ended found) (turned.stays some) ∙ sym (g.same ∙ go found looked some)
       where
-        go : (r : ℕ) → r ≡ reason_of program left now' → (r ≡ 0 → ⊥) → run_of program left now' ≡ ended r now'
+        go : (r : ℕ) → r ≡ reason_of program left (world_in now) → (r ≡ 0 → ⊥) → run_of program left (world_in now) ≡ ended r (world_in now)
         go zero e n = absurd (n refl)
         go (suc r) e n = halts (reason_of program) (next_of program) left r _ (sym e)
 
     -- there is none: a step, and the run goes on
     module _ (none : found ≡ 0) where
-      below : c.index < n
-      below = (reason-goes program places left c.index c.outputs (sym (told.told m all) ∙ none)).before_end
+      below : now.counts.index < n
+      below = (reason-goes program places left now.counts.index now.counts.outputs (sym (told.told m all) ∙ none)).before_end
 
-      next : w' ≡ next_of program now'
-      next = turned.steps none ∙ ap (λ (j : Instruction). stepped j now') (sym (all c.index below).same) ∙ next-stepped program _
+      next : w' ≡ next_of program (world_in now)
+      next = turned.steps none ∙ ap (λ (j : Instruction). stepped j (world_in now)) (sym (all now.counts.index below).same) ∙ next-stepped program _
 
       pub goes_further : Going program m left₀ start (left - 1) w'
       goes_further =
@@ -244,5 +216,12 @@ module _ {code : List ℕ} {n m left₀ : ℕ} {start : World} {left : ℕ} {c :
           runs : Runnable n m w'
           runs = subst (Runnable n m) (sym next) (step-runnable program m fits left _ g.runnable (sym looked ∙ none))
 
-          counts : w'.counts.steps ≡ c.steps + 1
+          counts : w'.counts.steps ≡ now.counts.steps + 1
           counts = ap (λ (v : World). v.counts.steps) (turned.steps none) ∙ step-steps here _
+
+-- a reason to stop is not 0
+pub some_reason : (reason : Reason) → reason_number reason ≡ 0 → ⊥
+some_reason Stopped e = omega arith
+some_reason PastEnd e = omega arith
+some_reason NoBudget e = omega arith
+some_reason NoPlace e = omega arith

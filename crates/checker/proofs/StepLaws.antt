@@ -18,7 +18,7 @@ use Rattle.machine.proofs.StepBounds.{few-undefined}
 use Rattle.machine.proofs.ListLaws.{reports-append}
 use Rattle.checker.specs.declared.Counts.{Counts}
 use Rattle.checker.specs.Views.{world}
-use Rattle.checker.specs.Pieces.{Room, StepRoom, reported, moved, Reports}
+use Rattle.checker.specs.Pieces.{StepRoom, reported, moved, Reports}
 
 -- ---- entries of the lists, word by word
 pub two-entered : (k x y : ℕ) (l : List ℕ) → k < length l / output_size → set (set l (2 * k) x) (2 * k + 1) y ≡ entered output_size k (x ∷ y ∷ []) l
@@ -75,16 +75,7 @@ pub blocked-one : (kind at : ℕ) (whole : Bool) (c t : Counts) (l l' : List ℕ
 unfolding if_blocked
 blocked-one kind at whole c t l l' e r = rw e r
 
--- a check leaves room to count a step after it
-pub room-kept : (rs : List Report) (c t : Counts) (l l' : List ℕ) → Reports rs c l t l' → Room c → Room t
-room-kept rs c t l l' r room =
-    record {
-      index = omega (arith, ap (λ (x : Counts). x.index) r.counts, room.index);
-      steps = omega (arith, ap (λ (x : Counts). x.steps) r.counts, room.steps);
-      outputs = omega (arith, ap (λ (x : Counts). x.outputs) r.counts, room.outputs);
-    }
-
--- and the first check for the second
+-- the first check leaves room for the report of the second
 pub room-check : (kind v : ℕ) (c t : Counts) (l l' : List ℕ) → Reports (if_undefined kind v) c l t l' → StepRoom c → t.reports + 1 < 2 ^ 32
 room-check kind v c t l l' r room = omega (arith, ap (λ (x : Counts). x.reports) r.counts, few-undefined kind v, room.reports)
 

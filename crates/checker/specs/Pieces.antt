@@ -1,4 +1,4 @@
--- What the functions inside a step and a run ask for and promise: each touches a part of the machine. Private functions alone cite these
+-- What the functions inside a step and a run ask for and promise of the machine. Private functions alone cite these
 -- definitions, so that nobody has to believe them: what `begin` and `run` promise is said by Views.antt and the crate `machine`.
 use Rattle.std.specs.Prelude.{ℕ, ◌+◌, ◌*◌, ◌/◌, ◌^◌, ◌<◌, ◌≤◌, ◌≡◌, Bool, true, false, cond, not, ◌||◌, List, [], ◌∷◌, ◌++◌, length, get_or, set, eqb, leb}
 use Rattle.rules.specs.declared.Operation.{Operation}
@@ -12,17 +12,28 @@ use Rattle.image.specs.declared.Widening.{Widening}
 use Rattle.image.specs.declared.Widening.TheVariants.{Zero, Sign}
 use Rattle.image.specs.declared.Instruction.{Instruction}
 use Rattle.image.specs.declared.Instruction.TheVariants.{Move, Compute, Mark}
-use Rattle.machine.specs.Machine.{Parts, parts, World, program_in}
-use Rattle.machine.specs.Ranges.{all_addressable}
+use Rattle.machine.specs.Machine.{parts, World, program_in}
+use Rattle.machine.specs.Ranges.{all_addressable, stored_where}
 use Rattle.machine.specs.Instructions.{address_of, bytes_of}
-use Rattle.machine.specs.Steps.{Report, undefined_address, if_undefined, if_blocked}
+use Rattle.machine.specs.Steps.{Report, undefined_address, undefined_condition, unaddressable_load, unaddressable_store, undefined_output, if_undefined, if_blocked}
 use Rattle.machine.specs.Lists.{reports_entered}
 use Rattle.machine.specs.Runs.{goes_on, stopped, no_place, reason_at}
 use Rattle.machine.specs.Checker.{stepped}
 use Rattle.machine.specs.Calls.{most_steps}
 use Rattle.machine.specs.Allowed.{Runnable}
 use Rattle.checker.specs.declared.Counts.{Counts}
+use Rattle.checker.specs.declared.kinds.Kind.{Kind}
+use Rattle.checker.specs.declared.kinds.Kind.TheVariants.{UndefinedAddress, UndefinedCondition, UnaddressableLoad, UnaddressableStore, UndefinedOutput}
+use Rattle.checker.specs.declared.step.Machine.{Machine}
 use Rattle.checker.specs.Views.{world}
+
+-- ---- the kinds of report, by their numbers
+abbrev pub kind_number : Kind → ℕ
+kind_number UndefinedAddress = undefined_address
+kind_number UndefinedCondition = undefined_condition
+kind_number UnaddressableLoad = unaddressable_load
+kind_number UnaddressableStore = unaddressable_store
+kind_number UndefinedOutput = undefined_output
 
 -- ---- the counts
 -- they have room for one step more
@@ -49,67 +60,74 @@ pub record Reports (rs : List Report) (c : Counts) (l : List ℕ) (t : Counts) (
   pub counts : t ≡ reported (length rs) c
   pub list : l' ≡ reports_entered c.steps c.index c.reports rs l
 
+-- ---- the machine, as the code has it
+-- all that a run reads and writes
+abbrev pub world_in : Machine → World
+world_in m = world m.counts (parts m.registers.now.data m.registers.now.shadows m.mem.now m.vbits.now m.abits.now) m.reports.now m.outputs.now
+
+-- what m was lent is still lent to m'
+pub record Lent (m m' : Machine) : Type 0 where
+  pub registers : m'.registers.ghost_name ≡ m.registers.ghost_name
+  pub mem : m'.mem.ghost_name ≡ m.mem.ghost_name
+  pub vbits : m'.vbits.ghost_name ≡ m.vbits.ghost_name
+  pub abits : m'.abits.ghost_name ≡ m.abits.ghost_name
+  pub reports : m'.reports.ghost_name ≡ m.reports.ghost_name
+  pub outputs : m'.outputs.ghost_name ≡ m.outputs.ghost_name
+
+-- a check leaves m': it has made these reports, and these V words
+pub record Checked (rs : List Report) (shadows : List ℕ) (m m' : Machine) : Type 0 where
+  pub lent : Lent m m'
+  pub reports : Reports rs m.counts m.reports.now m'.counts m'.reports.now
+  pub words : m'.registers.now.data ≡ m.registers.now.data
+  pub shadow_words : m'.registers.now.shadows ≡ shadows
+  pub mem : m'.mem.now ≡ m.mem.now
+  pub vbits : m'.vbits.now ≡ m.vbits.now
+  pub abits : m'.abits.now ≡ m.abits.now
+  pub outputs : m'.outputs.now ≡ m.outputs.now
+
 -- the checks of a load or store: it begins at this address, V of register a is cleared, and the reports are made
-pub record Accessed (kind : ℕ) (width : Width) (a imm : ℕ) (regs mem_a : List ℕ) (c : Counts) (regs_v l : List ℕ)
-    (at : ℕ) (whole : Bool) (t : Counts) (regs_v' l' : List ℕ) : Type 0 where
-  pub place : at ≡ address_of regs a imm
-  pub fits : at < 2 ^ 32
-  pub bytes : whole ≡ all_addressable mem_a at (bytes_of width)
-  pub clear : regs_v' ≡ set regs_v a 0
-  pub reports : Reports (if_undefined undefined_address (get_or regs_v a 0) ++ if_blocked kind at (not whole)) c l t l'
+pub record Accessed (kind : ℕ) (width : Width) (a imm at : ℕ) (whole : Bool) (m m' : Machine) : Type 0 where
+  pub place : at ≡ address_of m.registers.now.data a imm
+  pub bytes : whole ≡ all_addressable m.abits.now at (bytes_of width)
+  pub checked : Checked (if_undefined undefined_address (get_or m.registers.now.shadows a 0) ++ if_blocked kind at (not whole)) (set m.registers.now.shadows a 0) m m'
 
--- ---- the step of an instruction i, by a function that is lent a part of the machine: it leaves t and the primed parts and lists, whatever
--- the rest is
--- the registers
-pub record StepsRegisters (i : Instruction) (c : Counts) (regs regs_v : List ℕ) (t : Counts) (regs' regs_v' : List ℕ) : Type 0 where
-  pub taken : (mem mem_v mem_a reports outputs : List ℕ)
-      → world t (parts regs' regs_v' mem mem_v mem_a) reports outputs ≡ stepped i (world c (parts regs regs_v mem mem_v mem_a) reports outputs)
+-- m' differs from m in memory and its V bits alone
+pub record Kept (m m' : Machine) : Type 0 where
+  pub lent : Lent m m'
+  pub counts : m'.counts ≡ m.counts
+  pub registers : m'.registers.now ≡ m.registers.now
+  pub abits : m'.abits.now ≡ m.abits.now
+  pub reports : m'.reports.now ≡ m.reports.now
+  pub outputs : m'.outputs.now ≡ m.outputs.now
 
--- all parts, and the reports
-pub record StepsParts (i : Instruction) (c : Counts) (p : Parts) (reports : List ℕ) (t : Counts) (p' : Parts) (reports' : List ℕ) : Type 0 where
-  pub taken : (outputs : List ℕ) → world t p' reports' outputs ≡ stepped i (world c p reports outputs)
+-- the low bytes of data and V are stored to the addressable ones of n bytes
+pub record Stored (x v at n : ℕ) (m m' : Machine) : Type 0 where
+  pub kept : Kept m m'
+  pub mem : m'.mem.now ≡ stored_where m.abits.now x m.mem.now at n
+  pub vbits : m'.vbits.now ≡ stored_where m.abits.now v m.vbits.now at n
 
--- a register's use: the registers read, their V words, and the reports
-pub record StepsUse (i : Instruction) (regs : List ℕ) (c : Counts) (regs_v reports : List ℕ) (t : Counts) (regs_v' reports' : List ℕ) : Type 0 where
-  pub taken : (mem mem_v mem_a outputs : List ℕ)
-      → world t (parts regs regs_v' mem mem_v mem_a) reports' outputs ≡ stepped i (world c (parts regs regs_v mem mem_v mem_a) reports outputs)
-
--- an output: the same, and the outputs
-pub record StepsOutput (i : Instruction) (regs : List ℕ) (c : Counts) (regs_v reports outputs : List ℕ) (t : Counts) (regs_v' reports' outputs' : List ℕ) : Type 0 where
-  pub taken : (mem mem_v mem_a : List ℕ)
-      → world t (parts regs regs_v' mem mem_v mem_a) reports' outputs' ≡ stepped i (world c (parts regs regs_v mem mem_v mem_a) reports outputs)
-
--- V and A bytes
-pub record StepsMarks (i : Instruction) (c : Counts) (mem_v mem_a : List ℕ) (t : Counts) (mem_v' mem_a' : List ℕ) : Type 0 where
-  pub taken : (regs regs_v mem reports outputs : List ℕ)
-      → world t (parts regs regs_v mem mem_v' mem_a') reports outputs ≡ stepped i (world c (parts regs regs_v mem mem_v mem_a) reports outputs)
+-- the step of an instruction leaves m'
+pub record Steps (i : Instruction) (m m' : Machine) : Type 0 where
+  pub lent : Lent m m'
+  pub taken : world_in m' ≡ stepped i (world_in m)
 
 -- ---- what a step and a run go by
--- the three buffers of a machine with so many bytes of memory
+-- the three buffers of a program with so many bytes of memory
 pub record Sizes (m : ℕ) (mem mem_v mem_a : List ℕ) : Type 0 where
   pub size : length mem ≡ m
   pub size_v : length mem_v ≡ m
   pub size_a : length mem_a ≡ m
 
--- the fields of an instruction are in range: for m bytes of memory, and for some image
-pub record FitsMemory (m : ℕ) (i : Instruction) : Type 0 where
+-- all that the step of an instruction asks for: its fields are in range for the memory, in an image of some length
+pub record MayStep (i : Instruction) (m : Machine) : Type 0 where
+  pub room : StepRoom m.counts
   pub count : ℕ
-  pub fits : Fits count m i
-
-pub record FitsSome (i : Instruction) : Type 0 where
-  pub memory : ℕ
-  pub fitting : FitsMemory memory i
-
--- all that the step of an instruction asks for
-pub record MayStep (c : Counts) (i : Instruction) (mem mem_v mem_a : List ℕ) : Type 0 where
-  pub room : StepRoom c
-  pub sizes : Sizes (length mem_a) mem mem_v mem_a
-  pub fits : FitsMemory (length mem_a) i
+  pub fits : Fits count (length m.abits.now) i
 
 -- where a run may go on
-pub record Ready (n m : ℕ) (c : Counts) (p : Parts) (reports outputs : List ℕ) (left : ℕ) : Type 0 where
-  pub runnable : Runnable n m (world c p reports outputs)
-  pub within : c.steps + left ≤ most_steps
+pub record Ready (n m : ℕ) (w : World) (left : ℕ) : Type 0 where
+  pub runnable : Runnable n m w
+  pub within : w.counts.steps + left ≤ most_steps
 
 -- ---- an instruction where it stands, in the code of an image
 -- the instruction that the fields at an index make
@@ -176,10 +194,10 @@ CodeReads code n m = (i : ℕ) → i < n → Reads code n m i
 
 -- ---- a turn of the loop
 -- all that it asks for, where the index is below n
-pub record MayTurn (code : List ℕ) (n : ℕ) (c : Counts) (mem mem_v mem_a : List ℕ) : Type 0 where
-  pub there : c.index < n → c.index < length code / instruction_size
-  pub known : c.index < n → (fields_at code c.index).op < ops
-  pub may : c.index < n → MayStep c (standing code c.index) mem mem_v mem_a
+pub record MayTurn (code : List ℕ) (n : ℕ) (m : Machine) : Type 0 where
+  pub there : m.counts.index < n → m.counts.index < length code / instruction_size
+  pub known : m.counts.index < n → (fields_at code m.counts.index).op < ops
+  pub may : m.counts.index < n → MayStep (standing code m.counts.index) m
 
 -- the stop reason before an op: STOP, EMIT without a place, or what holds otherwise
 abbrev pub reason_by : (op places outputs otherwise : ℕ) → ℕ

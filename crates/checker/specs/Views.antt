@@ -1,12 +1,16 @@
 -- How the values of the code are read as the machine's: counts, registers, states, answers.
-use Rattle.std.specs.Prelude.{ℕ, List}
+use Rattle.std.specs.Prelude.{ℕ, List, replicate, Result, Ok, Err}
+use Rattle.image.specs.Format.{registers}
+use Rattle.image.specs.Refusals.{accepted}
 use Rattle.flat.specs.Registers.{data_words, shadow_words}
-use Rattle.machine.specs.Machine.{Parts, parts, Counts as MachineCounts, World}
+use Rattle.machine.specs.Machine.{Parts, parts, Counts as MachineCounts, zero_counts, World}
 use Rattle.machine.specs.Calls.{Began as BeginAnswer, Ran as RunAnswer}
 use Rattle.checker.specs.declared.Counts.{Counts}
 use Rattle.checker.specs.declared.State.{State}
-use Rattle.checker.specs.declared.Began.{Began}
 use Rattle.checker.specs.declared.Ran.{Ran}
+use Rattle.checker.specs.declared.refusals.Refusal.{Refusal}
+use Rattle.checker.specs.Refusals.{verdict}
+use Rattle.checker.specs.Reasons.{reason_number}
 
 abbrev pub counts_of : Counts → MachineCounts
 counts_of c = record { index = c.index; steps = c.steps; outputs = c.outputs; reports = c.reports }
@@ -22,9 +26,14 @@ world c p reports outputs = record { parts = p; counts = counts_of c; report_lis
 abbrev pub world_of : State → (mem mem_v mem_a reports outputs : List ℕ) → World
 world_of s mem mem_v mem_a = world s.counts (parts_of s mem mem_v mem_a)
 
--- what a call answers, with what it leaves in the buffers and lists
-abbrev pub began_of : Began → (mem mem_v mem_a : List ℕ) → BeginAnswer
-began_of r mem mem_v mem_a = record { refusal = r.refusal; parts = parts_of r.state mem mem_v mem_a; counts = counts_of r.state.counts }
+-- what a beginning answers, with what it leaves in the buffers; refused: a state of all zeros
+abbrev pub began_of : Result State Refusal → (mem mem_v mem_a : List ℕ) → BeginAnswer
+began_of (Ok s) mem mem_v mem_a = record { refusal = accepted; parts = parts_of s mem mem_v mem_a; counts = counts_of s.counts }
+began_of (Err e) mem mem_v mem_a = record { refusal = verdict e; parts = parts (replicate registers 0) (replicate registers 0) mem mem_v mem_a; counts = zero_counts }
 
-abbrev pub ran_of : Ran → (mem mem_v mem_a reports outputs : List ℕ) → RunAnswer
-ran_of r mem mem_v mem_a reports outputs = record { refusal = r.refusal; reason = r.reason; world = world_of r.state mem mem_v mem_a reports outputs }
+-- what a run answers, with what it leaves in the buffers and lists; refused: reason 0 and the state as given
+abbrev pub ran_of : (given : State) → Result Ran Refusal → (mem mem_v mem_a reports outputs : List ℕ) → RunAnswer
+ran_of given (Ok r) mem mem_v mem_a reports outputs =
+    record { refusal = accepted; reason = reason_number r.reason; world = world_of r.state mem mem_v mem_a reports outputs }
+ran_of given (Err e) mem mem_v mem_a reports outputs =
+    record { refusal = verdict e; reason = 0; world = world_of given mem mem_v mem_a reports outputs }

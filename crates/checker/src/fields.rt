@@ -10,30 +10,69 @@ use image::{Widening, Width, ops};
 use rules::bytes::join4;
 
 // The bytes of an instruction: op, d, a, b, and the first of imm.
-pub const OP: usize = 0;
+const OP: usize = 0;
 
-pub const D: usize = 1;
+const D: usize = 1;
 
-pub const A: usize = 2;
+const A: usize = 2;
 
-pub const B: usize = 3;
+const B: usize = 3;
 
 const IMM: usize = 4;
 
-pub fn field(code: &[u8], index: u32, k: usize) -> u8
-    requires { (index < length code.now / instruction_size) × (k < instruction_size) }
-    ensures { ByteIs code.now index k result }
-{
-    code[INSTRUCTION * index as usize + k]
+// Where an instruction stands in the code: there is one at the index.
+#[derive(Clone, Copy)]
+pub struct Place<'a> {
+    pub code: &'a [u8],
+    pub index: u32,
+    ghost there: { index < length code.now / instruction_size },
 }
 
-#[tactic(auto, unfolding(image::specs::Words::nth_word, rules::specs::Bytes::joined))]
-pub fn imm(code: &[u8], index: u32) -> u32
-    requires { index < length code.now / instruction_size }
-    ensures { ImmIs code.now index result }
-{
-    let at = INSTRUCTION * index as usize + IMM;
-    join4(code[at], code[at + 1], code[at + 2], code[at + 3])
+impl Place<'_> {
+    fn field(self, k: usize) -> u8
+        requires { k < instruction_size }
+        ensures { ByteIs self.entry.code.now self.entry.index k result }
+    {
+        self.code[INSTRUCTION * self.index as usize + k]
+    }
+
+    pub fn op(self) -> u8
+        ensures { ByteIs self.entry.code.now self.entry.index 0 result }
+    {
+        self.field(OP)
+    }
+
+    pub fn d(self) -> u8
+        ensures { ByteIs self.entry.code.now self.entry.index 1 result }
+    {
+        self.field(D)
+    }
+
+    pub fn a(self) -> u8
+        ensures { ByteIs self.entry.code.now self.entry.index 2 result }
+    {
+        self.field(A)
+    }
+
+    pub fn b(self) -> u8
+        ensures { ByteIs self.entry.code.now self.entry.index 3 result }
+    {
+        self.field(B)
+    }
+
+    // As `image` reads a word, whose function is private there, since it asks for room.
+    #[tactic(auto, unfolding(image::specs::Words::nth_word, rules::specs::Bytes::joined))]
+    pub fn imm(self) -> u32
+        ensures { ImmIs self.entry.code.now self.entry.index result }
+    {
+        let at = INSTRUCTION * self.index as usize + IMM;
+        join4(
+            self.code[at],
+            self.code[at + 1],
+            self.code[at + 2],
+            self.code[at + 3],
+        )
+    }
 }
 
 // ---- loads and stores
@@ -50,7 +89,8 @@ const WIDTHS: u64 = 1 << (2 * ops::LD32 as u64)
     | 2 << (2 * ops::LDS16 as u64)
     | 2 << (2 * ops::ST16 as u64);
 
-// The two bits of an op. They are shifted out, as a match on the op takes several jumps.
+// The two bits of an op, of which there are 25, as the reader saw. They are shifted out, as a match on the
+// op takes several jumps.
 fn width_number(op: u8) -> u64
     requires { op < ops }
     ensures { result ≡ width_number op }

@@ -1,11 +1,21 @@
-// The kinds of report (document 01, Shadow rules): an undefined address, condition or output is used;
-// a load or a store meets an unaddressable byte.
-pub const UNDEFINED_ADDRESS: u32 = 1;
+// The kinds of report (document 01, Shadow rules), and the word that each is in a list.
+ghost use Rattle.std.specs.Prelude.{◌≡◌};
+ghost use Rattle.checker.specs.Pieces.{kind_number};
 
-pub const UNDEFINED_CONDITION: u32 = 2;
+// An undefined address, condition or output is used; a load or a store meets an unaddressable byte.
+#[derive(Clone, Copy, Debug, PartialEq, Eq)]
+pub enum Kind {
+    UndefinedAddress = 1,
+    UndefinedCondition = 2,
+    UnaddressableLoad = 3,
+    UnaddressableStore = 4,
+    UndefinedOutput = 5,
+}
 
-pub const UNADDRESSABLE_LOAD: u32 = 3;
+impl From<Kind> for u32 {
+    ghost from_gives = { λ kind word. word ≡ kind_number kind };
 
-pub const UNADDRESSABLE_STORE: u32 = 4;
-
-pub const UNDEFINED_OUTPUT: u32 = 5;
+    fn from(kind: Kind) -> u32 {
+        kind as u32
+    }
+}

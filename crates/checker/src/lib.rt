@@ -3,11 +3,8 @@
 // check everything themselves, and equal `begin_answer` and `run_answer` of the crate `machine`.
 #![tactic(auto)]
 
-use image::Refusal;
 use rules::{Data, Shadow};
 
-pub mod reasons; // reasons.rt: the numbers of the stop reasons
-pub mod refusals; // refusals.rt: the numbers of the refusals 8 to 11
 mod beginning; // beginning.rt: what an accepted image makes of the buffers
 mod calls; // calls.rt: the public calls with their refusals
 mod counting; // counting.rt: the counts
@@ -16,14 +13,19 @@ mod fields; // fields.rt: an instruction where it stands
 mod kinds; // kinds.rt: the kinds of report
 mod lists; // lists.rt: the two lists
 mod ranges; // ranges.rt: ranges of bytes
+mod reasons; // reasons.rt: the stop reasons, with their numbers
+mod refusals; // refusals.rt: the refusals, with their numbers and indices
+mod registers; // registers.rt: the registers of a run
 mod running; // running.rt: the run
 mod step; // step.rt: what each group of instructions does
 
 pub use calls::{begin, run};
 pub use flat::limits; // the sizes of a run
+pub use reasons::Reason;
+pub use refusals::Refusal;
 
 // The next instruction's index; how many steps were taken, outputs and reports made.
-#[derive(Clone, Copy)]
+#[derive(Clone, Copy, Default, PartialEq, Eq)]
 pub struct Counts {
     pub index: u32,
     pub steps: u32,
@@ -39,17 +41,9 @@ pub struct State {
     pub counts: Counts,
 }
 
-// What beginning answers: number 0 or a refusal, and the state.
-#[derive(Clone, Copy)]
-pub struct Began {
-    pub refusal: Refusal,
-    pub state: State,
-}
-
-// What a run answers: number 0 or a refusal, the stop reason's number, and the state.
+// What a run answers: why it ended, and the state.
 #[derive(Clone, Copy)]
 pub struct Ran {
-    pub refusal: Refusal,
-    pub reason: u8,
+    pub reason: Reason,
     pub state: State,
 }

@@ -1,7 +1,7 @@
 // Ranges of bytes: which are addressable, what is loaded from them, what is written to them. An access
 // whose bytes are all addressable has a quick way for each width; any other goes byte by byte.
-ghost use Rattle.std.specs.Prelude.{◌≡◌, cond, ◌+◌, ◌^◌, ◌≤◌, ◌<◌, length, get_or, set};
-ghost use Rattle.machine.specs.Ranges.{is_addressable, all_addressable, loaded, loaded_where, filled, stored, stored_where};
+ghost use Rattle.std.specs.Prelude.{◌≡◌, cond, ◌+◌, ◌≤◌, length, get_or};
+ghost use Rattle.machine.specs.Ranges.{is_addressable, all_addressable, loaded, loaded_where, filled, stored};
 ghost use Rattle.machine.specs.Instructions.{bytes_of, widened};
 ghost use Rattle.machine.specs.Machine.{addressable_mark};
 ghost use Rattle.rules.specs.Bytes.{joined};
@@ -9,7 +9,8 @@ ghost use Rattle.rules.specs.Bytes.{joined};
 use image::{Widening, Width};
 use rules::bytes::{byte, join4, swiden, zwiden};
 
-// A of an addressable byte, and of an unaddressable one; V of an undefined byte, and of a defined one.
+// A of an addressable byte, and of an unaddressable one; V of an undefined byte, and of a defined one:
+// bytes, as the buffers that C lends hold them.
 pub const ADDRESSABLE: u8 = 1;
 
 pub const UNADDRESSABLE: u8 = 0;
@@ -22,7 +23,7 @@ pub const DEFINED: u8 = 0;
 const BLOCKED_BYTE: u8 = 0;
 
 // How many bytes an access has.
-fn size_of(width: Width) -> usize
+pub fn size_of(width: Width) -> usize
     ensures { result ≡ bytes_of width }
 {
     match width {
@@ -32,27 +33,26 @@ fn size_of(width: Width) -> usize
     }
 }
 
-// The bytes of an access, zero-widened.
+// The bytes of an access, zero-widened. A case for each width: one copy of `size_of` bytes, here and in
+// `store_all`, is a call of memcpy, as its length is no constant, and tried alone takes twice the time or more.
 #[tactic(auto, unfolding(rules::specs::Bytes::joined))]
-fn load_all(width: Width, s: &[u8], at: usize) -> u32
-    requires { (at < 2 ^ 32) × (at + bytes_of width ≤ length s.now) }
+fn load_all(width: Width, s: &[u8], at: u32) -> u32
+    requires { at + bytes_of width ≤ length s.now }
     ensures { result ≡ loaded s.now at (bytes_of width) }
 {
+    let i = at as usize;
     match width {
-        Width::Byte => join4(s[at], 0, 0, 0),
-        Width::Half => join4(s[at], s[at + 1], 0, 0),
-        Width::Word => join4(s[at], s[at + 1], s[at + 2], s[at + 3]),
+        Width::Byte => join4(s[i], 0, 0, 0),
+        Width::Half => join4(s[i], s[i + 1], 0, 0),
+        Width::Word => join4(s[i], s[i + 1], s[i + 2], s[i + 3]),
     }
 }
 
 // ---- which are addressable
-fn is_addressable(a: &[u8], at: usize) -> bool
+pub fn is_addressable(a: &[u8], at: usize) -> bool
     ensures { result ≡ is_addressable a.now at }
 {
-    if a.len() <= at {
-        return false;
-    }
-    a[at] == ADDRESSABLE
+    a.get(at).is_some_and(|mark| *mark == ADDRESSABLE)
 }
 
 // The A bytes of an access, all addressable, as a word.
@@ -68,19 +68,14 @@ fn all_marked(width: Width) -> u32
 }
 
 // Whether every byte of an access is addressable.
-fn all_addressable_of(width: Width, a: &[u8], at: usize) -> bool
-    requires { at < 2 ^ 32 }
+fn all_addressable_of(width: Width, a: &[u8], at: u32) -> bool
     ensures { result ≡ all_addressable a.now at (bytes_of width) }
 {
-    if a.len() < at + size_of(width) {
-        return false;
-    }
-    load_all(width, a, at) == all_marked(width)
+    at as usize + size_of(width) <= a.len() && load_all(width, a, at) == all_marked(width)
 }
 
 // The same. Each case names its width, so that the compiler makes a piece of code for it alone.
-pub fn all_addressable(width: Width, a: &[u8], at: usize) -> bool
-    requires { at < 2 ^ 32 }
+pub fn all_addressable(width: Width, a: &[u8], at: u32) -> bool
     ensures { result ≡ all_addressable a.now at (bytes_of width) }
 {
     match width {
@@ -93,39 +88,35 @@ pub fn all_addressable(width: Width, a: &[u8], at: usize) -> bool
 // ---- what is loaded
 // The byte at an address, if it is addressable.
 fn byte_at(a: &[u8], s: &[u8], at: usize) -> u8
-    requires { length s.now ≡ length a.now }
     ensures { result ≡ cond (is_addressable a.now at) (get_or s.now at 0) 0 }
 {
-    if is_addressable(a, at) {
-        return s[at];
+    match s.get(at) {
+        Some(x) if is_addressable(a, at) => *x,
+        _ => BLOCKED_BYTE,
     }
-    BLOCKED_BYTE
 }
 
 // The bytes of an access, with 0 for each unaddressable one.
-fn load_some(width: Width, a: &[u8], s: &[u8], at: usize) -> u32
-    requires { (at < 2 ^ 32) × (length s.now ≡ length a.now) }
+fn load_some(width: Width, a: &[u8], s: &[u8], at: u32) -> u32
     ensures { result ≡ loaded_where a.now s.now at (bytes_of width) }
 {
-    let size = size_of(width);
     let mut x = 0;
-    let mut k = 0;
-    while k < size {
-        x = x | zwiden(byte_at(a, s, at + k)) << (8 * k as u32);
-        k += 1;
+    for k in 0..size_of(width) {
+        x |= zwiden(byte_at(a, s, at as usize + k)) << (8 * k as u32);
     }
     x
 }
 
 // The same; whole: they are all addressable.
-pub fn load(whole: bool, width: Width, a: &[u8], s: &[u8], at: usize) -> u32
-    requires { (whole ≡ all_addressable a.now at (bytes_of width)) × (at < 2 ^ 32) × (length s.now ≡ length a.now) }
+pub fn load(whole: bool, width: Width, a: &[u8], s: &[u8], at: u32) -> u32
+    requires { (whole ≡ all_addressable a.now at (bytes_of width)) × (length s.now ≡ length a.now) }
     ensures { result ≡ loaded_where a.now s.now at (bytes_of width) }
 {
     if whole {
-        return load_all(width, s, at);
+        load_all(width, s, at)
+    } else {
+        load_some(width, a, s, at)
     }
-    load_some(width, a, s, at)
 }
 
 // The word that a load makes of its bytes, of data and of V bits alike.
@@ -141,61 +132,26 @@ pub fn widen(width: Width, widening: Widening, x: u32) -> u32
 // ---- what is written
 // The low bytes of x, to the bytes of an access.
 #[tactic(auto, unfolding(machine::specs::Ranges::written))]
-fn store_all(width: Width, x: u32, s: &mut [u8], at: usize)
-    requires { (at < 2 ^ 32) × (at + bytes_of width ≤ length s.old) }
+pub fn store_all(width: Width, x: u32, s: &mut [u8], at: u32)
+    requires { at + bytes_of width ≤ length s.old }
     ensures { s.new ≡ stored x s.old at (bytes_of width) }
 {
+    let i = at as usize;
     match width {
         Width::Byte => {
-            s[at] = byte(x, 0);
+            s[i] = byte(x, 0);
         }
         Width::Half => {
-            s[at] = byte(x, 0);
-            s[at + 1] = byte(x, 1);
+            s[i] = byte(x, 0);
+            s[i + 1] = byte(x, 1);
         }
         Width::Word => {
-            s[at] = byte(x, 0);
-            s[at + 1] = byte(x, 1);
-            s[at + 2] = byte(x, 2);
-            s[at + 3] = byte(x, 3);
+            s[i] = byte(x, 0);
+            s[i + 1] = byte(x, 1);
+            s[i + 2] = byte(x, 2);
+            s[i + 3] = byte(x, 3);
         }
     }
-}
-
-// A byte to an address, if that is addressable.
-fn put(a: &[u8], b: u8, s: &mut [u8], at: usize)
-    requires { length s.old ≡ length a.now }
-    ensures { s.new ≡ cond (is_addressable a.now at) (set s.old at b) s.old }
-{
-    if !is_addressable(a, at) {
-        return;
-    }
-    s[at] = b;
-}
-
-// The low bytes of x, to the addressable bytes of an access.
-fn store_some(width: Width, a: &[u8], x: u32, s: &mut [u8], at: usize)
-    requires { (at < 2 ^ 32) × (length s.old ≡ length a.now) }
-    ensures { s.new ≡ stored_where a.now x s.old at (bytes_of width) }
-{
-    let size = size_of(width);
-    let mut k = 0;
-    while k < size {
-        put(a, byte(x, k as u32), s, at + k);
-        k += 1;
-    }
-}
-
-// The same; whole: they are all addressable.
-pub fn store(whole: bool, width: Width, a: &[u8], x: u32, s: &mut [u8], at: usize)
-    requires { (whole ≡ all_addressable a.now at (bytes_of width)) × (at < 2 ^ 32) × (length s.old ≡ length a.now) }
-    ensures { s.new ≡ stored_where a.now x s.old at (bytes_of width) }
-{
-    if whole {
-        store_all(width, x, s, at);
-        return;
-    }
-    store_some(width, a, x, s, at);
 }
 
 // So many bytes from an address on become x.
@@ -203,9 +159,7 @@ pub fn fill(x: u8, s: &mut [u8], at: usize, size: usize)
     requires { at + size ≤ length s.old }
     ensures { s.new ≡ filled x s.old at size }
 {
-    let mut k = 0;
-    while k < size {
+    for k in 0..size {
         s[at + k] = x;
-        k += 1;
     }
 }

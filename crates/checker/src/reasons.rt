@@ -1,10 +1,26 @@
-// The stop reasons (document 01, A run, its lists and its end); 0 where there is none.
-pub const GOES_ON: u8 = 0;
+// The stop reasons (document 01, A run, its lists and its end), with their numbers.
+ghost use Rattle.std.specs.Prelude.{◌≡◌};
+ghost use Rattle.checker.specs.Reasons.{reason_number};
 
-pub const STOPPED: u8 = 1;
+// Why a run ended.
+#[derive(Clone, Copy, Debug, PartialEq, Eq)]
+pub enum Reason {
+    Stopped,
+    PastEnd,
+    NoBudget,
+    NoPlace,
+}
 
-pub const PAST_END: u8 = 2;
-
-pub const NO_BUDGET: u8 = 3;
-
-pub const NO_PLACE: u8 = 4;
+impl Reason {
+    // Its number.
+    pub fn number(self) -> u8
+        ensures { result ≡ reason_number self }
+    {
+        match self {
+            Reason::Stopped => 1,
+            Reason::PastEnd => 2,
+            Reason::NoBudget => 3,
+            Reason::NoPlace => 4,
+        }
+    }
+}

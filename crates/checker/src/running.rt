@@ -2,131 +2,90 @@
 // reason that it meets.
 ghost use Rattle.std.specs.Prelude.{◌≡◌, cond, ◌≤◌, eqb, leb};
 ghost use Rattle.image.specs.Format.{most_n};
-ghost use Rattle.machine.specs.Machine.{parts, program_in};
+ghost use Rattle.machine.specs.Machine.{program_in};
 ghost use Rattle.machine.specs.Runs.{goes_on, no_budget, no_place, ended};
 ghost use Rattle.machine.specs.Checker.{run_of};
-ghost use Rattle.checker.specs.Views.{world};
-ghost use Rattle.checker.specs.Pieces.{CodeReads, Ready, standing, MayTurn, reason_by, Reasons, Turned};
+ghost use Rattle.checker.specs.Reasons.{reason_number, reason_in};
+ghost use Rattle.checker.specs.Pieces.{world_in, Lent, CodeReads, Ready, standing, MayTurn, reason_by, Reasons, Turned};
 
-use super::{Counts, dispatch, fields, reasons};
+use super::Reason;
+use super::fields::Place;
+use super::step::Machine;
 use flat::limits::OUTPUT;
 use image::ops;
 
-// Why a run ended, or that it goes on, and its counts.
-#[derive(Clone, Copy)]
-pub struct Ended {
-    pub reason: u8,
-    pub counts: Counts,
-}
-
-// ---- the stop reasons
+// ---- the stop reasons, by the outputs made and how many have a place
 // At EMIT: no place left for its output, or what holds otherwise.
-fn at_emit(outputs: u32, places: usize, otherwise: u8) -> u8
-    ensures { result ≡ cond (leb places outputs) no_place otherwise }
+fn at_emit(outputs: u32, places: usize, otherwise: Option<Reason>) -> Option<Reason>
+    ensures { reason_in result ≡ cond (leb places outputs) no_place (reason_in otherwise) }
 {
     if places <= outputs as usize {
-        return reasons::NO_PLACE;
+        return Some(Reason::NoPlace);
     }
     otherwise
 }
 
 // Before an op of the program: STOP, EMIT without a place, or what holds otherwise.
-fn reason_of(op: u8, outputs: u32, places: usize, otherwise: u8) -> u8
-    ensures { result ≡ reason_by op places outputs otherwise }
+fn reason_of(op: u8, outputs: u32, places: usize, otherwise: Option<Reason>) -> Option<Reason>
+    ensures { reason_in result ≡ reason_by op places outputs (reason_in otherwise) }
 {
     match op {
-        ops::STOP => reasons::STOPPED,
+        ops::STOP => Some(Reason::Stopped),
         ops::EMIT => at_emit(outputs, places, otherwise),
         _ => otherwise,
     }
 }
 
 // The budget is asked first, so that with some left nothing stands between the op and its step.
-fn reason_at(op: u8, outputs: u32, places: usize, left: u32) -> u8
-    ensures { result ≡ reason_by op places outputs (cond (eqb left 0) no_budget goes_on) }
+fn reason_at(op: u8, outputs: u32, places: usize, left: u32) -> Option<Reason>
+    ensures { reason_in result ≡ reason_by op places outputs (cond (eqb left 0) no_budget goes_on) }
 {
     if left == 0 {
-        return reason_of(op, outputs, places, reasons::NO_BUDGET);
+        return reason_of(op, outputs, places, Some(Reason::NoBudget));
     }
-    reason_of(op, outputs, places, reasons::GOES_ON)
+    reason_of(op, outputs, places, None)
 }
 
 // ---- the loop
-// One turn: the reason to stop at the index, or the step of the instruction there.
-fn turn(
-    code: &[u8],
-    n: u32,
-    places: usize,
-    left: u32,
-    c: Counts,
-    regs: &mut [u32; 16],
-    shadows: &mut [u32; 16],
-    mem: &mut [u8],
-    vbits: &mut [u8],
-    abits: &mut [u8],
-    reports: &mut [u32],
-    outputs: &mut [u32],
-) -> Ended
-    requires { MayTurn code.now n c mem.old vbits.old abits.old }
-    ensures reasons { Reasons code.now n places left c result.reason }
-    ensures turned { Turned (standing code.now c.index) result.reason (world c (parts regs.old shadows.old mem.old vbits.old abits.old) reports.old outputs.old) (world result.counts (parts regs.new shadows.new mem.new vbits.new abits.new) reports.new outputs.new) }
-{
-    if n <= c.index {
-        return Ended {
-            reason: reasons::PAST_END,
-            counts: c,
-        };
-    }
-    let op = fields::field(code, c.index, fields::OP);
-    let found = reason_at(op, c.outputs, places, left);
-    if found != reasons::GOES_ON {
-        return Ended {
-            reason: found,
-            counts: c,
-        };
-    }
-    let next = dispatch::step(
-        c, op, code, regs, shadows, mem, vbits, abits, reports, outputs,
-    );
-    Ended {
-        reason: found,
-        counts: next,
-    }
-}
-
-// The run, from these counts and parts.
-pub fn run_on(
-    code: &[u8],
-    n: u32,
-    m: u32,
-    counts: Counts,
-    budget: u32,
-    regs: &mut [u32; 16],
-    shadows: &mut [u32; 16],
-    mem: &mut [u8],
-    vbits: &mut [u8],
-    abits: &mut [u8],
-    reports: &mut [u32],
-    outputs: &mut [u32],
-) -> Ended
-    requires { (n ≤ most_n) × CodeReads code.now n m × Ready n m counts (parts regs.old shadows.old mem.old vbits.old abits.old) reports.old outputs.old budget }
-    ensures { ended result.reason (world result.counts (parts regs.new shadows.new mem.new vbits.new abits.new) reports.new outputs.new) ≡ run_of (program_in code.now n m) budget (world counts (parts regs.old shadows.old mem.old vbits.old abits.old) reports.old outputs.old) }
-{
-    let places = outputs.len() / OUTPUT;
-    let mut c = counts;
-    let mut left = budget;
-    let reason = loop {
-        let went = turn(
-            code, n, places, left, c, regs, shadows, mem, vbits, abits, reports, outputs,
-        );
-        c = went.counts;
-        if went.reason != reasons::GOES_ON {
-            break went.reason;
+impl Machine<'_> {
+    // One turn: the reason to stop at the index, or the step of the instruction there.
+    #[tactic(auto, using(crate::proofs::RunningLaws::at_end, crate::proofs::RunningLaws::before_end))]
+    fn turn(&mut self, code: &[u8], n: u32, places: usize, left: u32) -> Option<Reason>
+        requires { MayTurn code.now n self.old }
+        ensures lent { Lent self.old self.new }
+        ensures reasons { Reasons code.now n places left self.old.counts (reason_in result) }
+        ensures turned { Turned (standing code.now self.old.counts.index) (reason_in result) (world_in self.old) (world_in self.new) }
+    {
+        if n <= self.counts.index {
+            return Some(Reason::PastEnd);
         }
-        left -= 1;
-    };
-    Ended {
-        reason: reason,
-        counts: c,
+        let here = Place {
+            code: code,
+            index: self.counts.index,
+        };
+        let op = here.op();
+        let found = reason_at(op, self.counts.outputs, places, left);
+        if found.is_none() {
+            self.step(op, here);
+        }
+        found
+    }
+
+    // The run, with a budget of so many steps: why it ended. A loop whose value is given by `break`, as
+    // document 01 has it.
+    #[tactic(auto, using(crate::proofs::RunningLaws::may_turn, crate::proofs::RunningLaws::ends, crate::proofs::RunningLaws::some_reason))]
+    pub fn run_on(&mut self, code: &[u8], n: u32, m: u32, budget: u32) -> Reason
+        requires { (n ≤ most_n) × CodeReads code.now n m × Ready n m (world_in self.old) budget }
+        ensures lent { Lent self.old self.new }
+        ensures ran { ended (reason_number result) (world_in self.new) ≡ run_of (program_in code.now n m) budget (world_in self.old) }
+    {
+        let places = self.outputs.len() / OUTPUT;
+        let mut left = budget;
+        loop {
+            if let Some(reason) = self.turn(code, n, places, left) {
+                break reason;
+            }
+            left -= 1;
+        }
     }
 }

@@ -1,280 +1,51 @@
-// What the instructions do (document 01, the table of instructions and Shadow rules): a function for
-// each group of them, each equal to `stepped` of its instruction. A function is lent what it touches,
-// and promises its part whatever the rest of the machine is.
-ghost use Rattle.std.specs.Prelude.{◌≡◌, not, [], ◌∷◌, ◌+◌, ◌^◌, ◌<◌, length, get_or, set};
+// What the instructions do (document 01, the table of instructions and Shadow rules): a method for each
+// group of them, each equal to `stepped` of its instruction.
+ghost use Rattle.std.specs.Prelude.{◌≡◌, cond, not, [], ◌∷◌, ◌+◌, ◌^◌, ◌<◌, length, get_or, set};
 ghost use Rattle.image.specs.Format.{registers};
-ghost use Rattle.image.specs.Accepted.{OperandFits};
-ghost use Rattle.image.specs.declared.Instruction.TheVariants.{Move, Compute, Load, Store, Jump, Emit, Mark};
-ghost use Rattle.machine.specs.Machine.{parts};
-ghost use Rattle.machine.specs.Instructions.{operand_data, address_of};
-ghost use Rattle.machine.specs.Steps.{operand_v, same_register, mark_of, report, if_undefined, if_blocked};
-ghost use Rattle.checker.specs.Pieces.{Room, StepRoom, Reports, Accessed, StepsRegisters, StepsParts, StepsUse, StepsOutput, StepsMarks, Sizes, FitsMemory, FitsSome};
+ghost use Rattle.image.specs.declared.Instruction.TheVariants.{Stop, Move, Compute, Load, Store, Jump, Emit, Mark};
+ghost use Rattle.machine.specs.Instructions.{address_of, bytes_of, widened};
+ghost use Rattle.machine.specs.Ranges.{is_addressable, all_addressable, loaded_where};
+ghost use Rattle.machine.specs.Steps.{same_register, mark_of, report, if_undefined, if_blocked};
+ghost use Rattle.flat.specs.Registers.{data_words, shadow_words};
 
-use super::{Counts, counting, kinds, lists, ranges};
+use super::kinds::Kind;
+use super::registers::Registers;
+use super::{Counts, State, lists, ranges};
+use flat::registers;
 use image::{Operand, Widening, Width};
-use rules::{Data, Operation, Shadow};
+use rules::bytes::byte;
+use rules::{Data, Operation, Shadow, Value};
 
-// ---- operands and registers
-// The data of B.
-fn operand(b: Operand, regs: &[u32; 16]) -> Data
-    requires { OperandFits b }
-    ensures { result.0 ≡ operand_data b regs.now }
-{
-    match b {
-        Operand::Register(r) => Data(regs[r as usize]),
-        Operand::Literal(x) => x,
-    }
+// All that a run works on: the counts, and what it is lent, each as C lends it. Memory, and its V and A
+// bits, have one size.
+#[derive(Drop)]
+pub struct Machine<'a> {
+    pub counts: Counts,
+    pub registers: &'a mut Registers,
+    pub mem: &'a mut [u8],
+    pub vbits: &'a mut [u8],
+    pub abits: &'a mut [u8],
+    pub reports: &'a mut [u32],
+    pub outputs: &'a mut [u32],
+    ghost size_v: { length vbits.now ≡ length mem.now },
+    ghost size_a: { length abits.now ≡ length mem.now },
 }
 
-// V of B; a literal is fully defined.
-fn operand_v(b: Operand, shadows: &[u32; 16]) -> Shadow
-    requires { OperandFits b }
-    ensures { result.0 ≡ operand_v b shadows.now }
-{
-    match b {
-        Operand::Register(r) => Shadow(shadows[r as usize]),
-        Operand::Literal(_) => Shadow(0),
-    }
+// An access to memory after its checks: where it begins, and whether all its bytes are addressable.
+#[derive(Clone, Copy)]
+struct Access {
+    at: u32,
+    whole: bool,
 }
 
 // Whether a and B are the same register.
 fn same_register(a: u8, b: Operand) -> bool
     ensures { result ≡ same_register a b }
 {
-    match b {
-        Operand::Register(r) => a == r,
-        Operand::Literal(_) => false,
-    }
+    b == Operand::Register(a)
 }
 
-// Register d gets data and V.
-fn set_register(d: u8, x: Data, v: Shadow, regs: &mut [u32; 16], shadows: &mut [u32; 16])
-    requires { d < registers }
-    ensures { (regs.new ≡ set regs.old d x.0) × (shadows.new ≡ set shadows.old d v.0) }
-{
-    regs[d as usize] = x.0;
-    shadows[d as usize] = v.0;
-}
-
-// Register a plus imm, modulo 4,294,967,296.
-fn address(regs: &[u32; 16], a: u8, imm: u32) -> u32
-    requires { a < registers }
-    ensures { result ≡ address_of regs.now a imm }
-{
-    let sum = rules::actions::add(Data(regs[a as usize]), Data(imm));
-    sum.0
-}
-
-// ---- checks
-fn put_report(c: Counts, kind: u32, detail: u32, reports: &mut [u32]) -> Counts
-    requires { c.reports + 1 < 2 ^ 32 }
-    ensures { Reports (report kind detail ∷ []) c reports.old result reports.new }
-{
-    lists::enter_report(c, kind, detail, reports);
-    counting::note(c)
-}
-
-// If V of register a is not 0: a report, and it is set to 0.
-fn use_register(c: Counts, kind: u32, a: u8, shadows: &mut [u32; 16], reports: &mut [u32]) -> Counts
-    requires { (c.reports + 1 < 2 ^ 32) × (a < registers) }
-    ensures reports { Reports (if_undefined kind (get_or shadows.old a 0)) c reports.old result reports.new }
-    ensures shadows_after { shadows.new ≡ set shadows.old a 0 }
-{
-    let v = Shadow(shadows[a as usize]);
-    if v.0 == 0 {
-        return c;
-    }
-    shadows[a as usize] = 0;
-    put_report(c, kind, v.0, reports)
-}
-
-// If a byte of an access is unaddressable: a report.
-fn use_bytes(c: Counts, kind: u32, whole: bool, place: u32, reports: &mut [u32]) -> Counts
-    requires { c.reports + 1 < 2 ^ 32 }
-    ensures { Reports (if_blocked kind place (not whole)) c reports.old result reports.new }
-{
-    if whole {
-        return c;
-    }
-    put_report(c, kind, place, reports)
-}
-
-// An access to memory after its checks: where it begins, whether all its bytes are addressable, and
-// the counts with its reports.
-#[derive(Clone, Copy)]
-struct Access {
-    at: usize,
-    whole: bool,
-    counts: Counts,
-}
-
-// The checks of a load or store, in their order: of register a, then of the bytes.
-fn checked(
-    c: Counts,
-    kind: u32,
-    width: Width,
-    a: u8,
-    imm: u32,
-    regs: &[u32; 16],
-    shadows: &mut [u32; 16],
-    abits: &[u8],
-    reports: &mut [u32],
-) -> Access
-    requires { StepRoom c × (a < registers) }
-    ensures { Accessed kind width a imm regs.now abits.now c shadows.old reports.old result.at result.whole result.counts shadows.new reports.new }
-{
-    let place = address(regs, a, imm);
-    let at = place as usize;
-    let t = use_register(c, kinds::UNDEFINED_ADDRESS, a, shadows, reports);
-    let whole = ranges::all_addressable(width, abits, at);
-    let u = use_bytes(t, kind, whole, place, reports);
-    Access {
-        at: at,
-        whole: whole,
-        counts: u,
-    }
-}
-
-// ---- the groups of instructions
-pub fn copy(c: Counts, d: u8, b: Operand, regs: &mut [u32; 16], shadows: &mut [u32; 16]) -> Counts
-    requires { Room c × FitsSome (Move d b) }
-    ensures { StepsRegisters (Move d b) c regs.old shadows.old result regs.new shadows.new }
-{
-    let x = rules::actions::mov(operand(b, regs));
-    let v = rules::shadows::mov(operand_v(b, shadows));
-    set_register(d, x, v, regs, shadows);
-    counting::next(c)
-}
-
-pub fn compute(
-    c: Counts,
-    op: Operation,
-    d: u8,
-    a: u8,
-    b: Operand,
-    regs: &mut [u32; 16],
-    shadows: &mut [u32; 16],
-) -> Counts
-    requires { Room c × FitsSome (Compute op d a b) }
-    ensures { StepsRegisters (Compute op d a b) c regs.old shadows.old result regs.new shadows.new }
-{
-    let x = Data(regs[a as usize]);
-    let v = Shadow(shadows[a as usize]);
-    let y = operand(b, regs);
-    let w = operand_v(b, shadows);
-    let z = rules::action(op, x, y);
-    let u = rules::shadow_of(op, same_register(a, b), x, v, y, w);
-    set_register(d, z, u, regs, shadows);
-    counting::next(c)
-}
-
-pub fn load(
-    c: Counts,
-    width: Width,
-    widening: Widening,
-    d: u8,
-    a: u8,
-    imm: u32,
-    regs: &mut [u32; 16],
-    shadows: &mut [u32; 16],
-    mem: &[u8],
-    vbits: &[u8],
-    abits: &[u8],
-    reports: &mut [u32],
-) -> Counts
-    requires { StepRoom c × FitsSome (Load width widening d a imm) × Sizes (length abits.now) mem.now vbits.now abits.now }
-    ensures { StepsParts (Load width widening d a imm) c (parts regs.old shadows.old mem.now vbits.now abits.now) reports.old result (parts regs.new shadows.new mem.now vbits.now abits.now) reports.new }
-{
-    let found = checked(
-        c,
-        kinds::UNADDRESSABLE_LOAD,
-        width,
-        a,
-        imm,
-        regs,
-        shadows,
-        abits,
-        reports,
-    );
-    let bytes = ranges::load(found.whole, width, abits, mem, found.at);
-    let bytes_v = ranges::load(found.whole, width, abits, vbits, found.at);
-    let x = Data(ranges::widen(width, widening, bytes));
-    let v = Shadow(ranges::widen(width, widening, bytes_v));
-    set_register(d, x, v, regs, shadows);
-    counting::next(found.counts)
-}
-
-pub fn store(
-    c: Counts,
-    width: Width,
-    d: u8,
-    a: u8,
-    imm: u32,
-    regs: &[u32; 16],
-    shadows: &mut [u32; 16],
-    mem: &mut [u8],
-    vbits: &mut [u8],
-    abits: &[u8],
-    reports: &mut [u32],
-) -> Counts
-    requires { StepRoom c × FitsSome (Store width d a imm) × Sizes (length abits.now) mem.old vbits.old abits.now }
-    ensures { StepsParts (Store width d a imm) c (parts regs.now shadows.old mem.old vbits.old abits.now) reports.old result (parts regs.now shadows.new mem.new vbits.new abits.now) reports.new }
-{
-    let found = checked(
-        c,
-        kinds::UNADDRESSABLE_STORE,
-        width,
-        a,
-        imm,
-        regs,
-        shadows,
-        abits,
-        reports,
-    );
-    let x = Data(regs[d as usize]);
-    let v = Shadow(shadows[d as usize]);
-    ranges::store(found.whole, width, abits, x.0, mem, found.at);
-    ranges::store(found.whole, width, abits, v.0, vbits, found.at);
-    counting::next(found.counts)
-}
-
-pub fn jump(
-    c: Counts,
-    a: u8,
-    target: u32,
-    regs: &[u32; 16],
-    shadows: &mut [u32; 16],
-    reports: &mut [u32],
-) -> Counts
-    requires { StepRoom c × FitsSome (Jump a target) }
-    ensures { StepsUse (Jump a target) regs.now c shadows.old reports.old result shadows.new reports.new }
-{
-    let t = use_register(c, kinds::UNDEFINED_CONDITION, a, shadows, reports);
-    let x = Data(regs[a as usize]);
-    if x.0 == 0 {
-        return counting::next(t);
-    }
-    counting::go_to(t, target)
-}
-
-pub fn emit(
-    c: Counts,
-    a: u8,
-    port: u32,
-    regs: &[u32; 16],
-    shadows: &mut [u32; 16],
-    reports: &mut [u32],
-    outputs: &mut [u32],
-) -> Counts
-    requires { StepRoom c × FitsSome (Emit a port) }
-    ensures { StepsOutput (Emit a port) regs.now c shadows.old reports.old outputs.old result shadows.new reports.new outputs.new }
-{
-    let t = use_register(c, kinds::UNDEFINED_OUTPUT, a, shadows, reports);
-    let value = Data(regs[a as usize]);
-    lists::enter_output(t, port, value.0, outputs);
-    counting::put_out(t)
-}
-
+// A of the bytes that OPEN or CLOSE leaves.
 fn mark_of(addressable: bool) -> u8
     ensures { result ≡ mark_of addressable }
 {
@@ -285,20 +56,230 @@ fn mark_of(addressable: bool) -> u8
     }
 }
 
-pub fn mark(
-    c: Counts,
-    addressable: bool,
-    start: u32,
-    size: u32,
-    vbits: &mut [u8],
-    abits: &mut [u8],
-) -> Counts
-    requires { Room c × FitsMemory (length abits.old) (Mark addressable start size) × (length vbits.old ≡ length abits.old) }
-    ensures { StepsMarks (Mark addressable start size) c vbits.old abits.old result vbits.new abits.new }
-{
-    let at = start as usize;
-    let count = size as usize;
-    ranges::fill(ranges::UNDEFINED, vbits, at, count);
-    ranges::fill(mark_of(addressable), abits, at, count);
-    counting::next(c)
+impl Machine<'_> {
+    ghost use Rattle.checker.specs.Pieces.{kind_number, StepRoom, MayStep, Checked, Accessed, Kept, Stored, Steps};
+
+    // The state that it is in.
+    pub fn state(&self) -> State
+        ensures counts { result.counts ≡ self.now.counts }
+        ensures data_words { data_words result.regs ≡ self.now.registers.now.data }
+        ensures shadow_words { shadow_words result.shadows ≡ self.now.registers.now.shadows }
+    {
+        State {
+            regs: registers::from_words(self.registers.data),
+            shadows: registers::from_words(self.registers.shadows),
+            counts: self.counts,
+        }
+    }
+
+    // ---- checks. What they ask, a register that there is and room for a report, is what the instruction and
+    // the counts say: a type for it would stand in every definition of the machine.
+    // Register a plus imm, modulo 4,294,967,296.
+    fn address(&self, a: u8, imm: u32) -> u32
+        requires { a < registers }
+        ensures { result ≡ address_of self.now.registers.now.data a imm }
+    {
+        rules::actions::add(self.registers.value(a).data, Data(imm)).0
+    }
+
+    fn report(&mut self, kind: Kind, detail: u32)
+        requires { self.old.counts.reports + 1 < 2 ^ 32 }
+        ensures { Checked (report (kind_number kind) detail ∷ []) self.old.registers.now.shadows self.old self.new }
+    {
+        lists::enter_report(self.counts, kind, detail, self.reports);
+        self.counts = self.counts.note();
+    }
+
+    // If V of register a is not 0: a report, and it is set to 0.
+    fn use_register(&mut self, kind: Kind, a: u8)
+        requires { (self.old.counts.reports + 1 < 2 ^ 32) × (a < registers) }
+        ensures { Checked (if_undefined (kind_number kind) (get_or self.old.registers.now.shadows a 0)) (set self.old.registers.now.shadows a 0) self.old self.new }
+    {
+        let v = self.registers.value(a).shadow;
+        if v.0 != 0 {
+            self.registers.clear(a);
+            self.report(kind, v.0);
+        }
+    }
+
+    // If a byte of an access is unaddressable: a report.
+    fn use_bytes(&mut self, kind: Kind, whole: bool, place: u32)
+        requires { self.old.counts.reports + 1 < 2 ^ 32 }
+        ensures { Checked (if_blocked (kind_number kind) place (not whole)) self.old.registers.now.shadows self.old self.new }
+    {
+        if !whole {
+            self.report(kind, place);
+        }
+    }
+
+    // Whether a byte is addressable, and whether every byte of an access is.
+    fn is_addressable(&self, at: usize) -> bool
+        ensures { result ≡ is_addressable self.now.abits.now at }
+    {
+        ranges::is_addressable(self.abits, at)
+    }
+
+    fn all_addressable(&self, width: Width, at: u32) -> bool
+        ensures { result ≡ all_addressable self.now.abits.now at (bytes_of width) }
+    {
+        ranges::all_addressable(width, self.abits, at)
+    }
+
+    // The checks of a load or store, in their order: of register a, then of the bytes.
+    fn access(&mut self, kind: Kind, width: Width, a: u8, imm: u32) -> Access
+        requires { StepRoom self.old.counts × (a < registers) }
+        ensures { Accessed (kind_number kind) width a imm result.at result.whole self.old self.new }
+    {
+        let at = self.address(a, imm);
+        self.use_register(Kind::UndefinedAddress, a);
+        let whole = self.all_addressable(width, at);
+        self.use_bytes(kind, whole, at);
+        Access {
+            at: at,
+            whole: whole,
+        }
+    }
+
+    // ---- the groups of instructions
+    // STOP takes a step like any other, though a run never asks for it.
+    pub fn stop(&mut self)
+        requires { MayStep Stop self.old }
+        ensures { Steps Stop self.old self.new }
+    {
+        self.counts = self.counts.next();
+    }
+
+    pub fn copy(&mut self, d: u8, b: Operand)
+        requires { MayStep (Move d b) self.old }
+        ensures { Steps (Move d b) self.old self.new }
+    {
+        let y = self.registers.operand(b);
+        let z = Value {
+            data: rules::actions::mov(y.data),
+            shadow: rules::shadows::mov(y.shadow),
+        };
+        self.registers.set(d, z);
+        self.counts = self.counts.next();
+    }
+
+    pub fn compute(&mut self, op: Operation, d: u8, a: u8, b: Operand)
+        requires { MayStep (Compute op d a b) self.old }
+        ensures { Steps (Compute op d a b) self.old self.new }
+    {
+        let x = self.registers.value(a);
+        let y = self.registers.operand(b);
+        let same = same_register(a, b);
+        let z = Value {
+            data: rules::action(op, x.data, y.data),
+            shadow: rules::shadow_of(op, same, x, y),
+        };
+        self.registers.set(d, z);
+        self.counts = self.counts.next();
+    }
+
+    // What a load finds after its checks, data and V bits widened alike.
+    fn found(&self, width: Width, widening: Widening, access: Access) -> Value
+        requires { access.whole ≡ all_addressable self.now.abits.now access.at (bytes_of width) }
+        ensures data_word { result.data.0 ≡ widened widening (bytes_of width) (loaded_where self.now.abits.now self.now.mem.now access.at (bytes_of width)) }
+        ensures shadow_word { result.shadow.0 ≡ widened widening (bytes_of width) (loaded_where self.now.abits.now self.now.vbits.now access.at (bytes_of width)) }
+    {
+        let bytes = ranges::load(access.whole, width, self.abits, self.mem, access.at);
+        let bytes_v = ranges::load(access.whole, width, self.abits, self.vbits, access.at);
+        Value {
+            data: Data(ranges::widen(width, widening, bytes)),
+            shadow: Shadow(ranges::widen(width, widening, bytes_v)),
+        }
+    }
+
+    pub fn load(&mut self, width: Width, widening: Widening, d: u8, a: u8, imm: u32)
+        requires { MayStep (Load width widening d a imm) self.old }
+        ensures { Steps (Load width widening d a imm) self.old self.new }
+    {
+        let access = self.access(Kind::UnaddressableLoad, width, a, imm);
+        let x = self.found(width, widening, access);
+        self.registers.set(d, x);
+        self.counts = self.counts.next();
+    }
+
+    // A byte and its V bits to an address, if that is addressable.
+    fn put(&mut self, x: u8, v: u8, at: usize)
+        ensures kept { Kept self.old self.new }
+        ensures mem_after { self.new.mem.now ≡ cond (is_addressable self.old.abits.now at) (set self.old.mem.now at x) self.old.mem.now }
+        ensures vbits_after { self.new.vbits.now ≡ cond (is_addressable self.old.abits.now at) (set self.old.vbits.now at v) self.old.vbits.now }
+    {
+        if self.is_addressable(at) {
+            self.mem[at] = x;
+            self.vbits[at] = v;
+        }
+    }
+
+    // The low bytes of a value, to the addressable bytes of an access.
+    fn store_some(&mut self, width: Width, x: Value, at: u32)
+        ensures { Stored x.data.0 x.shadow.0 at (bytes_of width) self.old self.new }
+    {
+        for k in 0..ranges::size_of(width) {
+            self.put(
+                byte(x.data.0, k as u32),
+                byte(x.shadow.0, k as u32),
+                at as usize + k,
+            );
+        }
+    }
+
+    // What a store writes after its checks.
+    fn write(&mut self, width: Width, x: Value, access: Access)
+        requires { access.whole ≡ all_addressable self.old.abits.now access.at (bytes_of width) }
+        ensures { Stored x.data.0 x.shadow.0 access.at (bytes_of width) self.old self.new }
+    {
+        if access.whole {
+            ranges::store_all(width, x.data.0, self.mem, access.at);
+            ranges::store_all(width, x.shadow.0, self.vbits, access.at);
+        } else {
+            self.store_some(width, x, access.at);
+        }
+    }
+
+    pub fn store(&mut self, width: Width, d: u8, a: u8, imm: u32)
+        requires { MayStep (Store width d a imm) self.old }
+        ensures { Steps (Store width d a imm) self.old self.new }
+    {
+        let access = self.access(Kind::UnaddressableStore, width, a, imm);
+        let x = self.registers.value(d);
+        self.write(width, x, access);
+        self.counts = self.counts.next();
+    }
+
+    pub fn jump(&mut self, a: u8, target: u32)
+        requires { MayStep (Jump a target) self.old }
+        ensures { Steps (Jump a target) self.old self.new }
+    {
+        self.use_register(Kind::UndefinedCondition, a);
+        let x = self.registers.value(a).data;
+        if x.0 == 0 {
+            self.counts = self.counts.next();
+        } else {
+            self.counts = self.counts.go_to(target);
+        }
+    }
+
+    pub fn emit(&mut self, a: u8, port: u32)
+        requires { MayStep (Emit a port) self.old }
+        ensures { Steps (Emit a port) self.old self.new }
+    {
+        self.use_register(Kind::UndefinedOutput, a);
+        let x = self.registers.value(a).data;
+        lists::enter_output(self.counts, port, x.0, self.outputs);
+        self.counts = self.counts.put_out();
+    }
+
+    pub fn mark(&mut self, addressable: bool, start: u32, size: u32)
+        requires { MayStep (Mark addressable start size) self.old }
+        ensures { Steps (Mark addressable start size) self.old self.new }
+    {
+        let at = start as usize;
+        let count = size as usize;
+        ranges::fill(ranges::UNDEFINED, self.vbits, at, count);
+        ranges::fill(mark_of(addressable), self.abits, at, count);
+        self.counts = self.counts.next();
+    }
 }

@@ -11,19 +11,21 @@ use lib.ListN.{length, get_or}
 use lib.Seq.{get_or-append-add}
 use lib.Ieee.{Float, binary32, le, of_bits, to_bits, nan_bits, is_nan}
 use lib.Ieee.Bits.{to_bits-of_bits, nan_bits_is}
+use Rattle.std.specs.Prelude.{Ok}
 use Rattle.image.specs.Format.{ports}
 use Rattle.image.proofs.Tests.{apart, both, all_three, every-below, all-every}
 use Rattle.machine.specs.Lists.{output_size, output_places}
 use Rattle.machine.specs.Calls.{most_outputs, list_ok}
 use Rattle.commands.specs.Gates.{gates, lowest, highest_of, in_gate, blocked, command_with, command_of, port_of, rates_of, words_of}
 use Rattle.commands.specs.ByBits.{passes_by_bits}
-use Rattle.commands.specs.Answers.{port_at, value_at, has_port, ports_ok, accepts, answer_of, numbers_of, numbers_for, numbers_at, RateIsNumber}
+use Rattle.commands.specs.Ports.{port_of_gate}
+use Rattle.commands.specs.declared.gates.Gate.{Gate}
+use Rattle.commands.specs.declared.gates.Gate.TheVariants.{Bump, Rebound, Preload}
+use Rattle.commands.specs.Answers.{port_at, value_at, has_port, ports_ok, accepts, answer_of, numbers_of, numbers_for, numbers_at, RateIsNumber, Answer, refused}
 use Rattle.commands.specs.Handing.{Acceptable, Between, Carries, HandsOn}
 use Rattle.commands.specs.Promises.{CommandPromise}
 use Rattle.commands.specs.declared.Command.{Command}
 use Rattle.commands.specs.declared.Command.TheVariants.{Blocked}
-use Rattle.commands.specs.declared.Answer.{Answer}
-use Rattle.commands.specs.declared.Answer.TheVariants.{Handed, Refused}
 use Rattle.commands.proofs.ByBits.{by_bits}
 
 -- none of three tests passes
@@ -49,26 +51,34 @@ module _ (port value : ℕ) (passes : blocked port value ≡ false) where
   kept-bits l = to_bits-of_bits binary32 value l (rw (← nan_bits_is binary32 value, is_number) tt)
 
 -- ---- what `command_of` answers
-module _ (port value : ℕ) where
-  pub no-gate : gates ≤ port → Blocked port ≡ command_of port value
-  unfolding command_of blocked
-  no-gate h = rw (le-leb gates port h)
+pub no_gate : (port value : ℕ) → gates ≤ port → Blocked port ≡ command_of port value
+unfolding command_of blocked
+no_gate port value h = rw (le-leb gates port h)
 
-  module _ (has : port < gates) (word : value < 2 ^ 32) where
-    pub outside : passes_by_bits port value ≡ false → Blocked port ≡ command_of port value
-    unfolding command_of
-    outside h = rw (by_bits port value has word, h)
+its-port : (gate : Gate) → port_of_gate gate < gates
+its-port Bump = omega arith
+its-port Rebound = omega arith
+its-port Preload = omega arith
 
-    not-blocked : passes_by_bits port value ≡ true → blocked port value ≡ false
-    not-blocked h = by_bits port value has word ∙ ap not h
+-- of a port that has a gate, by what the gate lets through
+module _ (gate : Gate) (port value : ℕ) (at : port_of_gate gate ≡ port) (word : value < 2 ^ 32) where
+  by-gate : blocked port value ≡ not (passes_by_bits (port_of_gate gate) value)
+  by-gate = by_bits port value (subst (λ (p : ℕ). p < gates) at (its-port gate)) word ∙ ap (λ (p : ℕ). not (passes_by_bits p value)) (sym at)
 
-    -- its bits are no NaN's, so that there is a rate
-    pub inside-number : passes_by_bits port value ≡ true → T (not (nan_bits binary32 value))
-    inside-number h = rw (is_number port value (not-blocked h)) tt
+  pub outside : false ≡ passes_by_bits (port_of_gate gate) value → Blocked port ≡ command_of port value
+  unfolding command_of
+  outside h = rw (by-gate, ← h)
 
-    pub inside : passes_by_bits port value ≡ true → command_with port (of_bits binary32 value) ≡ command_of port value
-    unfolding command_of
-    inside h = rw (not-blocked h)
+  not-blocked : true ≡ passes_by_bits (port_of_gate gate) value → blocked port value ≡ false
+  not-blocked h = by-gate ∙ ap not (sym h)
+
+  -- its bits are no NaN's, so that there is a rate
+  pub inside_number : true ≡ passes_by_bits (port_of_gate gate) value → T (not (nan_bits binary32 value))
+  inside_number h = rw (is_number port value (not-blocked h)) tt
+
+  pub inside : true ≡ passes_by_bits (port_of_gate gate) value → command_with (port_of_gate gate) (of_bits binary32 value) ≡ command_of port value
+  unfolding command_of
+  inside h = rw (not-blocked h, at)
 
 -- ---- a command of a port that has a gate
 with-port : (port : ℕ) (rate : Float) → port < gates → port_of (command_with port rate) ≡ port
@@ -97,7 +107,7 @@ pub answer-numbers : (outputs : List ℕ) (number : ℕ) → value_at outputs nu
 unfolding answer_of numbers_at
 answer-numbers outputs number l = go (accepts outputs number)
   where
-    go : (t : Bool) → numbers_of (cond t (Handed (command_of (port_at outputs number) (value_at outputs number))) Refused) ≡ cond t (numbers_for (port_at outputs number) (value_at outputs number)) (13 ∷ [])
+    go : (t : Bool) → numbers_of (cond t (Ok (command_of (port_at outputs number) (value_at outputs number))) refused) ≡ cond t (numbers_for (port_at outputs number) (value_at outputs number)) (13 ∷ [])
     go true = ap (λ (l : List ℕ). 0 ∷ l) (numbers-kept (port_at outputs number) (value_at outputs number) l)
     go false = refl
 
@@ -129,17 +139,17 @@ module _ (outputs : List ℕ) (number : ℕ) where
 -- ---- the clauses
 module _ (outputs : List ℕ) (number : ℕ) where
   abbrev handed : Answer
-  handed = Handed (command_of (port_at outputs number) (value_at outputs number))
+  handed = Ok (command_of (port_at outputs number) (value_at outputs number))
 
-  refused-exactly : (answer_of outputs number ≡ Refused) ↔ (Acceptable outputs number → ⊥)
+  refused-exactly : (answer_of outputs number ≡ refused) ↔ (Acceptable outputs number → ⊥)
   unfolding answer_of
   refused-exactly = (λ e a. told (accepts outputs number) e (accepted outputs number a), go (accepts outputs number) refl)
     where
-      told : (t : Bool) → cond t handed Refused ≡ Refused → t ≡ true → ⊥
+      told : (t : Bool) → cond t handed refused ≡ refused → t ≡ true → ⊥
       told true e h = let z : ◌≡◌ {A = ℕ} 0 1 = cc in omega arith
       told false e h = apart (sym h)
 
-      go : (t : Bool) → accepts outputs number ≡ t → (Acceptable outputs number → ⊥) → cond t handed Refused ≡ Refused
+      go : (t : Bool) → accepts outputs number ≡ t → (Acceptable outputs number → ⊥) → cond t handed refused ≡ refused
       go true h never = absurd (never (acceptable outputs number h))
       go false h never = refl
 
@@ -206,7 +216,7 @@ module _ (port value : ℕ) where
           })
 
 handed-exactly : (before after : List ℕ) (port value number : ℕ) → length before ≡ output_size * number
-    → Acceptable (before ++ (port ∷ value ∷ after)) number → answer_of (before ++ (port ∷ value ∷ after)) number ≡ Handed (command_of port value)
+    → Acceptable (before ++ (port ∷ value ∷ after)) number → answer_of (before ++ (port ∷ value ∷ after)) number ≡ Ok (command_of port value)
 unfolding answer_of
 handed-exactly before after port value number e a =
     let first : port_at (before ++ (port ∷ value ∷ after)) number ≡ port = ap (λ (k : ℕ). get_or (before ++ (port ∷ value ∷ after)) k 0) (omega arith) ∙ get_or-append-add before (port ∷ value ∷ after) 0 0 in
@@ -225,7 +235,7 @@ module _ (outputs : List ℕ) (number : ℕ) (words : (i : ℕ) → get_or outpu
   unfolding answer_of
   rate-number = go (accepts outputs number)
     where
-      go : (t : Bool) → RateIsNumber (cond t (handed outputs number) Refused)
+      go : (t : Bool) → RateIsNumber (cond t (handed outputs number) refused)
       go true rate e = (carries (port_at outputs number) (value_at outputs number) word rate e).is_number
       go false rate e = absurd (let z : ◌≡◌ {A = ℕ} 0 1 = ap length e in omega arith)
 
@@ -237,10 +247,10 @@ module _ (outputs : List ℕ) (number : ℕ) (words : (i : ℕ) → get_or outpu
         rate = subst RateIsNumber (sym e) rate-number;
       }
 
-  pub refuses : accepts outputs number ≡ false → CommandPromise outputs number Refused
+  pub refuses : accepts outputs number ≡ false → CommandPromise outputs number refused
   unfolding answer_of
-  refuses h = promised Refused (rw h)
+  refuses h = promised refused (rw h)
 
-  pub hands : (command : Command) → accepts outputs number ≡ true → command ≡ command_of (port_at outputs number) (value_at outputs number) → CommandPromise outputs number (Handed command)
+  pub hands : (command : Command) → accepts outputs number ≡ true → command ≡ command_of (port_at outputs number) (value_at outputs number) → CommandPromise outputs number (Ok command)
   unfolding answer_of
-  hands command h e = promised (Handed command) (rw (h, e))
+  hands command h e = promised (Ok command) (rw (h, e))

@@ -1,13 +1,13 @@
 -- The answer for one of the outputs made (02, L7): its command, or refusal 13. The list holds the outputs made and nothing else.
-use Rattle.std.specs.Prelude.{ℕ, ◌+◌, ◌*◌, ◌≡◌, Bool, false, cond, ◌&&◌, List, [], ◌∷◌, get_or, ltb, Float}
+use Rattle.std.specs.Prelude.{ℕ, ◌+◌, ◌*◌, ◌≡◌, Bool, false, cond, ◌&&◌, List, [], ◌∷◌, get_or, ltb, Float, Result, Ok, Err}
 use Rattle.std.specs.Float.Ieee.{is_nan}
 use Rattle.image.specs.Tests.{every}
 use Rattle.image.specs.Format.{ports}
 use Rattle.machine.specs.Lists.{output_size, output_places}
 use Rattle.machine.specs.Calls.{most_outputs, list_ok}
 use Rattle.commands.specs.Gates.{blocked, command_of, rates_of, words_of}
-use Rattle.commands.specs.declared.Answer.{Answer}
-use Rattle.commands.specs.declared.Answer.TheVariants.{Handed, Refused}
+use Rattle.commands.specs.declared.Command.{Command}
+use Rattle.commands.specs.declared.refusals.WrongOutputs.{WrongOutputs}
 
 abbrev pub wrong_outputs : ℕ
 wrong_outputs = 13
@@ -32,19 +32,25 @@ unfoldable pub accepts : List ℕ → (number : ℕ) → Bool
 accepts outputs number = list_ok output_size most_outputs outputs && ports_ok outputs && ltb number (output_places outputs)
 
 -- ---- the answer
+abbrev pub Answer : Type 0
+Answer = Result Command WrongOutputs
+
+abbrev pub refused : Answer
+refused = Err (record {})
+
 unfoldable pub answer_of : List ℕ → (number : ℕ) → Answer
-answer_of outputs number = cond (accepts outputs number) (Handed (command_of (port_at outputs number) (value_at outputs number))) Refused
+answer_of outputs number = cond (accepts outputs number) (Ok (command_of (port_at outputs number) (value_at outputs number))) refused
 
 -- ---- 02's numbers of each case
 -- the refusal's number, 0 if there is none; its index is always 0, and is not handed over
 abbrev pub refusal_number : Answer → ℕ
-refusal_number (Handed command) = 0
-refusal_number Refused = wrong_outputs
+refusal_number (Ok command) = 0
+refusal_number (Err refusal) = wrong_outputs
 
 -- and then the words of the command
 abbrev pub words_handed : Answer → List ℕ
-words_handed (Handed command) = words_of command
-words_handed Refused = []
+words_handed (Ok command) = words_of command
+words_handed (Err refusal) = []
 
 abbrev pub numbers_of : Answer → List ℕ
 numbers_of answer = refusal_number answer ∷ words_handed answer
@@ -58,8 +64,8 @@ numbers_at outputs number = cond (accepts outputs number) (numbers_for (port_at 
 
 -- ---- the rate that is handed on, one or none: it is a number, so that its bits can be asked for
 abbrev pub rates_handed : Answer → List Float
-rates_handed (Handed command) = rates_of command
-rates_handed Refused = []
+rates_handed (Ok command) = rates_of command
+rates_handed (Err refusal) = []
 
 abbrev pub RateIsNumber : Answer → Type 0
 RateIsNumber answer = (rate : Float) → rates_handed answer ≡ rate ∷ [] → is_nan rate ≡ false

@@ -1,5 +1,5 @@
 -- What follows from the definitions (02, L7), of any list and number. `hands_on` in proofs/Handing.antt is the proof.
-use Rattle.std.specs.Prelude.{ℕ, ◌*◌, ◌%◌, ◌^◌, ◌≤◌, ◌<◌, ◌≡◌, ◌⊎◌, ◌↔◌, true, false, not, List, [], ◌∷◌, ◌++◌, length, Float}
+use Rattle.std.specs.Prelude.{ℕ, ◌*◌, ◌%◌, ◌^◌, ◌≤◌, ◌<◌, ◌≡◌, ◌⊎◌, ◌↔◌, true, false, not, List, [], ◌∷◌, ◌++◌, length, Float, Ok}
 use Rattle.std.specs.Float.{binary32}
 use Rattle.std.specs.Float.Ieee.{le, of_bits, to_bits, is_nan}
 use Rattle.image.specs.Format.{ports}
@@ -7,9 +7,8 @@ use Rattle.machine.specs.Lists.{output_size, output_places}
 use Rattle.machine.specs.Calls.{most_outputs}
 use Rattle.commands.specs.Gates.{gates, lowest, highest_of, blocked, command_of, port_of, rates_of}
 use Rattle.commands.specs.ByBits.{passes_by_bits}
-use Rattle.commands.specs.Answers.{port_at, answer_of}
+use Rattle.commands.specs.Answers.{port_at, refused, answer_of}
 use Rattle.commands.specs.declared.Command.TheVariants.{Blocked}
-use Rattle.commands.specs.declared.Answer.TheVariants.{Handed, Refused}
 
 -- "an even number of words, at most 512, and port words at most 7, and the number must lie within it"
 pub record Acceptable (outputs : List ℕ) (number : ℕ) : Type 0 where
@@ -33,10 +32,10 @@ pub record Carries (port value : ℕ) (rate : Float) : Type 0 where
 
 pub record HandsOn : Type 0 where
   -- "else refusal 13"
-  pub refuses : (outputs : List ℕ) (number : ℕ) → (answer_of outputs number ≡ Refused) ↔ (Acceptable outputs number → ⊥)
+  pub refuses : (outputs : List ℕ) (number : ℕ) → (answer_of outputs number ≡ refused) ↔ (Acceptable outputs number → ⊥)
   -- "the number of one, from 0": the output behind as many others makes the command
   pub hands : (before after : List ℕ) (port value number : ℕ) → length before ≡ output_size * number
-      → Acceptable (before ++ (port ∷ value ∷ after)) number → answer_of (before ++ (port ∷ value ∷ after)) number ≡ Handed (command_of port value)
+      → Acceptable (before ++ (port ∷ value ∷ after)) number → answer_of (before ++ (port ∷ value ∷ after)) number ≡ Ok (command_of port value)
   -- "A command is blocked exactly if the port is 3 to 7, the value is not a number, or it lies outside the gate"; a port above 7 is refused with its list
   pub blocks : (port value : ℕ) → (command_of port value ≡ Blocked port) ↔ ((gates ≤ port) ⊎ ((is_nan (of_bits binary32 value) ≡ true) ⊎ (Between port (of_bits binary32 value) → ⊥)))
   -- what holds of a rate that is handed on, the value being a word of 32 bits

@@ -1,4 +1,5 @@
 pub mod Gates
+pub mod Ports
 pub mod ByBits
 pub mod Answers
 pub mod Promises

@@ -1,7 +1,6 @@
 -- What `command` promises, for every list and every number. The list is lent to be read, and stays as it is.
 use Rattle.std.specs.Prelude.{ℕ, ◌≡◌, List}
-use Rattle.commands.specs.Answers.{answer_of, numbers_of, numbers_at, RateIsNumber}
-use Rattle.commands.specs.declared.Answer.{Answer}
+use Rattle.commands.specs.Answers.{Answer, answer_of, numbers_of, numbers_at, RateIsNumber}
 
 pub record CommandPromise (outputs : List ℕ) (number : ℕ) (r : Answer) : Type 0 where
   -- it is the answer of the definition, in which a rate is the float whose bits the value is

@@ -6,20 +6,15 @@
 mod gates; // gates.rt: the gate of each port, and the command that two words make
 pub mod outputs; // outputs.rt: the command of one of the outputs made
 pub mod rates; // rates.rt: the bits of a rate
-pub mod refusals; // refusals.rt: the number of the refusal
+mod refusals; // refusals.rt: the refusal, with its number
+
+pub use refusals::WrongOutputs;
 
 // What an output means: ports 0, 1 and 2 carry a rate, and what is blocked names its port.
-#[derive(Clone, Copy)]
+#[derive(Clone, Copy, Debug, PartialEq)]
 pub enum Command {
     Bump(f32),
     Rebound(f32),
     Preload(f32),
     Blocked(u32),
-}
-
-// A command, or the refusal.
-#[derive(Clone, Copy)]
-pub enum Answer {
-    Handed(Command),
-    Refused,
 }

@@ -1,54 +1,50 @@
 // The command of one of the outputs made. The list holds these and nothing else, two words each.
 ghost use Rattle.std.specs.Prelude.{◌≡◌};
-ghost use Rattle.commands.specs.Answers.{accepts, refusal_number};
+ghost use Rattle.commands.specs.Answers.{ports_ok, accepts, refusal_number};
 ghost use Rattle.commands.specs.Promises.{CommandPromise};
 
-use super::{Answer, gates, refusals};
+use super::{Command, WrongOutputs, gates};
 use flat::limits::{MOST_OUTPUTS, OUTPUT};
 use image::format::PORTS;
-use image::refusals::ACCEPTED;
+
+// Whether each output names a port.
+#[tactic(auto, unfolding(crate::specs::Answers::ports_ok))]
+fn ports_ok(outputs: &[u32]) -> bool
+    ensures { result ≡ ports_ok outputs.now }
+{
+    outputs.chunks_exact(OUTPUT).all(|output| output[0] < PORTS)
+}
 
 // Whether the list is one of outputs and has one of that number: whole entries, not too many, and a
 // port in each.
+#[tactic(auto, unfolding(crate::specs::Answers::accepts))]
 fn accepted(outputs: &[u32], number: usize) -> bool
     ensures { result ≡ accepts outputs.now number }
 {
-    let words = outputs.len();
-    let count = words / OUTPUT;
-    if !((words % OUTPUT == 0) & (words <= OUTPUT * MOST_OUTPUTS)) {
-        return false;
-    }
-    if count <= number {
-        return false;
-    }
-    let mut k = 0;
-    while k < count {
-        if PORTS <= outputs[OUTPUT * k] {
-            return false;
-        }
-        k += 1;
-    }
-    true
+    (outputs.len() % OUTPUT == 0)
+        & (outputs.len() <= OUTPUT * MOST_OUTPUTS)
+        & (number < outputs.len() / OUTPUT)
+        && ports_ok(outputs)
 }
 
 // The command of output number `number`, from 0, or the refusal.
 #[tactic(auto, using(crate::proofs::ListLaws::in_list))]
-pub fn command(outputs: &[u32], number: usize) -> Answer
+pub fn command(outputs: &[u32], number: usize) -> Result<Command, WrongOutputs>
     ensures { CommandPromise outputs.now number result }
 {
     if !accepted(outputs, number) {
-        return Answer::Refused;
+        return Err(WrongOutputs);
     }
     let at = OUTPUT * number;
-    Answer::Handed(gates::command_of(outputs[at], outputs[at + 1]))
+    Ok(gates::command_of(outputs[at], outputs[at + 1]))
 }
 
 // The refusal's number of an answer, 0 if there is none.
-pub fn refusal_number(answer: Answer) -> u8
+pub fn refusal_number(answer: Result<Command, WrongOutputs>) -> u8
     ensures { result ≡ refusal_number answer }
 {
     match answer {
-        Answer::Handed(_) => ACCEPTED,
-        Answer::Refused => refusals::WRONG_OUTPUTS,
+        Ok(_) => 0,
+        Err(refusal) => refusal.number(),
     }
 }

@@ -3,7 +3,7 @@ ghost use Rattle.std.specs.Prelude.{◌≡◌};
 ghost use Rattle.std.specs.Float.{binary32};
 ghost use Rattle.std.specs.Float.Ieee.{to_bits};
 
-// What is not a number has many patterns, and here this one.
+// What is not a number has many patterns, and here this one; `f32::to_bits` asks for a number.
 const NAN: u32 = 0x7FC0_0000;
 
 // Of any float. A command that is handed on carries a number, whose bits `f32::to_bits` gives as well,

@@ -1,55 +1,64 @@
 // The registers and V words of a state as plain words, which a run is lent, and back.
-ghost use Rattle.std.specs.Prelude.{◌≡◌};
-ghost use Rattle.flat.specs.Registers.{data_words, shadow_words};
+ghost use Rattle.std.specs.Prelude.{◌≡◌, ℕ, ◌<◌, map, slice_index_or};
 
 use rules::{Data, Shadow};
+use std::array;
 
-pub fn data_words(regs: [Data; 16]) -> [u32; 16]
-    ensures { result ≡ data_words regs }
-{
-    let mut words = [0; 16];
-    let mut k = 0;
-    while k < 16 {
-        let x = regs[k];
-        words[k] = x.0;
-        k += 1;
-    }
-    words
+// Data or a V word, which is a plain word in a wrapper.
+pub trait Plain: Copy {
+    ghost plain: { Self → ℕ };
+
+    fn to_plain(self) -> u32
+        ensures { result ≡ plain self };
+
+    fn from_plain(word: u32) -> Self
+        ensures { plain result ≡ word };
 }
 
-pub fn shadow_words(shadows: [Shadow; 16]) -> [u32; 16]
-    ensures { result ≡ shadow_words shadows }
-{
-    let mut words = [0; 16];
-    let mut k = 0;
-    while k < 16 {
-        let v = shadows[k];
-        words[k] = v.0;
-        k += 1;
+impl Plain for Data {
+    ghost plain = { λ x. x.0 };
+
+    fn to_plain(self) -> u32 {
+        self.0
     }
-    words
+
+    fn from_plain(word: u32) -> Data {
+        Data(word)
+    }
 }
 
-pub fn data_of(words: [u32; 16]) -> [Data; 16]
-    ensures { data_words result ≡ words }
-{
-    let mut regs = [Data(0); 16];
-    let mut k = 0;
-    while k < 16 {
-        regs[k] = Data(words[k]);
-        k += 1;
+impl Plain for Shadow {
+    ghost plain = { λ v. v.0 };
+
+    fn to_plain(self) -> u32 {
+        self.0
     }
-    regs
+
+    fn from_plain(word: u32) -> Shadow {
+        Shadow(word)
+    }
 }
 
-pub fn shadows_of(words: [u32; 16]) -> [Shadow; 16]
-    ensures { shadow_words result ≡ words }
+// The plain words of sixteen: of data `data_words`, of V words `shadow_words`.
+pub fn to_words<W: Plain>(values: [W; 16]) -> [u32; 16]
+    ensures { result ≡ map W.plain values }
 {
-    let mut shadows = [Shadow(0); 16];
-    let mut k = 0;
-    while k < 16 {
-        shadows[k] = Shadow(words[k]);
-        k += 1;
-    }
-    shadows
+    array::from_fn(
+        |k| -> u32
+            requires { k < 16 }
+            ensures { (d : W) → result ≡ W.plain (slice_index_or values k d) }
+        { values[k].to_plain() },
+    )
+}
+
+// And back.
+pub fn from_words<W: Plain>(words: [u32; 16]) -> [W; 16]
+    ensures { map W.plain result ≡ words }
+{
+    array::from_fn(
+        |k| -> W
+            requires { k < 16 }
+            ensures { (d : ℕ) → W.plain result ≡ slice_index_or words k d }
+        { W::from_plain(words[k]) },
+    )
 }

@@ -5,14 +5,11 @@
 use std::io;
 
 mod cases; // cases.rt: the outputs and lists
-mod show; // show.rt: text, numbers and answers
 
 fn main(rt: HostRuntime) -> io::Result<()> {
     let mut out = rt.stdout();
-    cases::ends(&mut out)?;
-    cases::outside(&mut out)?;
+    cases::values(&mut out)?;
     cases::ports(&mut out)?;
-    cases::numbers(&mut out)?;
     cases::lists(&mut out)?;
     cases::sizes(&mut out)
 }

@@ -2,7 +2,7 @@
 use Prim.Native.Nat.{ℕ, zero, suc, ◌*◌, ◌≤◌, ◌<◌}
 use mathlib.Core.Path.{◌≡◌, refl, sym, ◌∙◌, ap}
 use mathlib.Core.Logic.{◌⊎◌, inl, inr, ⊎_elim}
-use mathlib.Core.Bool.{Bool, true, false, cond, ◌||◌}
+use mathlib.Core.Bool.{Bool, true, false, cond}
 use mathlib.Core.List.{List}
 use native.Mathlib.Nat.{eq-or-lt_of_le}
 use native.Mathlib.Omega.{arith}
@@ -11,16 +11,16 @@ use lib.ListN.{length, get_or, take}
 use lib.Seq.{ext_get_or, get_or-take, length-take-le}
 use borrow.Author.Tests.{leb-true, eqb-true, le-leb, eq-eqb}
 use Rattle.image.specs.Format.{magic, largest, header_size, instruction_size, region_size, most_m, most_n, most_r, most_d, regions_at, data_at, size_of, field_m, field_n, field_r, field_d, code_offset, region_offset, data_offset, magic_ok, limits_within, limits_ok, layout_ok, code_part, region_part, data_part}
-use Rattle.image.specs.Regions.{filled_kind, undefined_kind, region_at, end_of, end_before, region_keeps, region_ok, filled_sum}
-use Rattle.image.specs.Refusals.{too_short, wrong_magic, out_of_limits, wrong_layout, bad_instruction, bad_region, wrong_sum, accepted, or_else, is_valid, instruction_ok, code_refusal, region_refusal, sum_refusal, content_refusal, refusal_with, refusal_of, header_of, code_of}
+use Rattle.image.specs.Regions.{filled_kind, undefined_kind, is_kind, region_at, end_of, end_before, region_keeps, region_ok, filled_sum}
+use Rattle.image.specs.Refusals.{Reading, too_short, wrong_magic, out_of_limits, wrong_layout, bad_instruction, bad_region, wrong_sum, accepted, or_else, instruction_ok, code_refusal, region_refusal, sum_refusal, content_refusal, refusal_with, refusal_of, header_of, code_of}
 use Rattle.image.specs.Accepted.{Limits, Layout, Keeps, AcceptedWith, Accepted}
-use Rattle.image.specs.declared.Decoded.{Decoded}
-use Rattle.image.specs.declared.Decoded.TheVariants.{Valid, Fault}
+use Rattle.std.specs.Prelude.{Result, Ok, Err, is_ok}
 use Rattle.image.specs.declared.Instruction.{Instruction}
+use Rattle.image.specs.declared.kinds.Kind.{Kind}
+use Rattle.image.specs.declared.kinds.Kind.TheVariants.{Filled, Undefined, Other}
 use Rattle.image.specs.declared.Region.{Region}
-use Rattle.image.specs.declared.Header.{Header}
 use Rattle.image.proofs.Parts.{length_part}
-use Rattle.image.proofs.Tests.{apart, both, all-four, either}
+use Rattle.image.proofs.Tests.{apart, both, all-four}
 use Rattle.image.proofs.Faults.{passed, both-passed, no-fault, all_pass}
 
 -- ---- the tests, as facts
@@ -79,26 +79,24 @@ magic-passes s h = simp (at 0 (omega arith), at 1 (omega arith), at 2 (omega ari
 
 keeps-hold : (region : Region) (before m : ℕ) → region_keeps region before m ≡ true → Keeps region before m
 keeps-hold region before m h =
-    let filled = eqb region.kind filled_kind in
-    let undefined = eqb region.kind undefined_kind in
-    let e = all-four (leb 1 region.size) (leb before region.start) (leb (end_of region) m) (filled || undefined) h in
-    record {
-      some = leb-true _ _ e.0;
-      follows = leb-true _ _ e.1;
-      within = leb-true _ _ e.2;
-      kind = ⊎_elim (λ k. inl (eqb-true _ _ k)) (λ k. inr (eqb-true _ _ k)) (either filled undefined e.3);
-    }
+    let e = all-four (leb 1 region.size) (leb before region.start) (leb (end_of region) m) (is_kind region.kind) h in
+    record { some = leb-true _ _ e.0; follows = leb-true _ _ e.1; within = leb-true _ _ e.2; kind = either-kind region.kind e.3 }
+  where
+    either-kind : (kind : Kind) → is_kind kind ≡ true → (kind ≡ filled_kind) ⊎ (kind ≡ undefined_kind)
+    either-kind Filled h = inl refl
+    either-kind Undefined h = inr refl
+    either-kind (Other word) h = apart (sym h)
 
 keeps-pass : {region : Region} {before m : ℕ} → Keeps region before m → region_keeps region before m ≡ true
 keeps-pass {region} k = simp (le-leb _ _ k.some, le-leb _ _ k.follows, le-leb _ _ k.within, of k.kind)
   where
-    of : (region.kind ≡ filled_kind) ⊎ (region.kind ≡ undefined_kind) → eqb region.kind filled_kind || eqb region.kind undefined_kind ≡ true
+    of : (region.kind ≡ filled_kind) ⊎ (region.kind ≡ undefined_kind) → is_kind region.kind ≡ true
     of (inl e) = rw e
     of (inr e) = rw e
 
-valid-holds : (x : Decoded) → is_valid x ≡ true → (v : Instruction) × (x ≡ Valid v)
-valid-holds (Valid v) h = (v, refl)
-valid-holds (Fault k) h = apart (sym h)
+valid-holds : (x : Result Instruction ℕ) → is_ok x ≡ true → (v : Instruction) × (x ≡ Ok v)
+valid-holds (Ok v) h = (v, refl)
+valid-holds (Err k) h = apart (sym h)
 
 -- ---- the theorems
 module _ (s : List ℕ) (m n r d : ℕ) where
@@ -126,7 +124,7 @@ module _ (s : List ℕ) (m n r d : ℕ) where
   with-passes : AcceptedWith s m n r d → refusal_with s m n r d ≡ accepted
   unfolding code_refusal region_refusal instruction_ok region_ok
   with-passes a =
-      let codes : code_refusal (code_part s n) n m ≡ accepted = all_pass bad_instruction _ 0 n (λ k lo hi. ap is_valid (a.code k (omega arith)).1) in
+      let codes : code_refusal (code_part s n) n m ≡ accepted = all_pass bad_instruction _ 0 n (λ k lo hi. ap is_ok (a.code k (omega arith)).1) in
       let places : region_refusal (region_part s n r) r m ≡ accepted = all_pass bad_region _ 0 r (λ k lo hi. keeps-pass (a.regions k (omega arith))) in
       simp (le-leb _ _ a.long, magic-passes s a.starts, limits-pass a.limits, layout-passes a.layout, codes, places, eq-eqb _ _ a.sum)
 
@@ -152,7 +150,7 @@ accepted-code s a = rw (accepted-header s a)
 
 -- ---- any header
 -- it has the image's four numbers, or zeros where the image is refused: what is so of both is so of it
-pub header-either : (s : List ℕ) (P : Header → Type 0)
+pub header-either : (s : List ℕ) (P : Reading → Type 0)
     → ((refusal_of s).number ≡ 0 → P (record { m = field_m s; n = field_n s; r = field_r s; d = field_d s; refusal = refusal_of s }))
     → (eqb (refusal_of s).number 0 ≡ false → P (record { m = 0; n = 0; r = 0; d = 0; refusal = refusal_of s }))
     → P (header_of s)
@@ -160,20 +158,20 @@ unfolding header_of
 header-either s P numbers zeros = go (eqb (refusal_of s).number 0) refl
   where
     go : (t : Bool) → eqb (refusal_of s).number 0 ≡ t
-        → P (cond {A = Header} t (record { m = field_m s; n = field_n s; r = field_r s; d = field_d s; refusal = refusal_of s }) (record { m = 0; n = 0; r = 0; d = 0; refusal = refusal_of s }))
+        → P (cond {A = Reading} t (record { m = field_m s; n = field_n s; r = field_r s; d = field_d s; refusal = refusal_of s }) (record { m = 0; n = 0; r = 0; d = 0; refusal = refusal_of s }))
     go true e = numbers (eqb-true _ _ e)
     go false e = zeros e
 
 pub header-refusal : (s : List ℕ) → (header_of s).refusal ≡ refusal_of s
-header-refusal s = header-either s (λ (h : Header). h.refusal ≡ refusal_of s) (λ e. refl) (λ e. refl)
+header-refusal s = header-either s (λ (h : Reading). h.refusal ≡ refusal_of s) (λ e. refl) (λ e. refl)
 
 -- M is never more than the most
 pub header-memory : (s : List ℕ) → (header_of s).m ≤ most_m
-header-memory s = header-either s (λ (h : Header). h.m ≤ most_m) (λ e. (accepted-image s e).limits.memory) (λ e. omega arith)
+header-memory s = header-either s (λ (h : Reading). h.m ≤ most_m) (λ e. (accepted-image s e).limits.memory) (λ e. omega arith)
 
 -- a refused image has no instructions
 pub header-empty : (s : List ℕ) → eqb (header_of s).refusal.number 0 ≡ false → (header_of s).n ≡ 0
-header-empty s = header-either s (λ (h : Header). eqb h.refusal.number 0 ≡ false → h.n ≡ 0) (λ e h. apart (sym (eq-eqb _ _ e) ∙ h)) (λ e h. refl)
+header-empty s = header-either s (λ (h : Reading). eqb h.refusal.number 0 ≡ false → h.n ≡ 0) (λ e h. apart (sym (eq-eqb _ _ e) ∙ h)) (λ e h. refl)
 
 -- ---- its size, and that of its parts
 pub accepted-small : (s : List ℕ) → Accepted s → length s ≤ largest

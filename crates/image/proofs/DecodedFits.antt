@@ -14,8 +14,7 @@ use Rattle.image.specs.Accepted.{Accepted, OperandFits, Fits}
 use Rattle.image.specs.declared.Instruction.{Instruction}
 use Rattle.image.specs.declared.rows.Row.{Row}
 use Rattle.image.specs.declared.rows.Row.TheVariants.{Stops, Moves, Computes, Loads, Stores, Jumps, Emits, Marks, Missing}
-use Rattle.image.specs.declared.Decoded.{Decoded}
-use Rattle.image.specs.declared.Decoded.TheVariants.{Valid, Fault}
+use Rattle.std.specs.Prelude.{Result, Ok, Err}
 use Rattle.image.proofs.Parts.{bytes-part}
 use Rattle.image.proofs.Decoding.{writable-holds, of-answer}
 use Rattle.image.proofs.Tests.{apart, both, all_three, all-four}
@@ -59,36 +58,36 @@ built-fits (Marks addressable) d a b imm n m l h =
     (leb-true _ _ q.0, leb-true _ _ q.1)
 built-fits Missing d a b imm n m l h = apart (sym h)
 
-abbrev AnswerFits : (n m : ℕ) → Decoded → Type 0
-AnswerFits n m (Valid v) = Fits n m v
-AnswerFits n m (Fault k) = Unit
+abbrev AnswerFits : (n m : ℕ) → Result Instruction ℕ → Type 0
+AnswerFits n m (Ok v) = Fits n m v
+AnswerFits n m (Err k) = Unit
 
-pub decoded-fits : (code : List ℕ) (i n m : ℕ) (v : Instruction) → Bytes code → decode_at code i n m ≡ Valid v → Fits n m v
+pub decoded-fits : (code : List ℕ) (i n m : ℕ) (v : Instruction) → Bytes code → decode_at code i n m ≡ Ok v → Fits n m v
 decoded-fits code i n m v b h =
     let f = fields_at code i in
     subst (AnswerFits n m) h (of-answer (AnswerFits n m) n m code i (λ there. built-fits (row_of f.op) f.d f.a f.b f.imm n m (word_lt code (2 * i + 1) b)) tt)
 
-abbrev PlacedAt : ℕ → Decoded → Type 0
-PlacedAt i (Valid v) = Unit
-PlacedAt i (Fault k) = k ≡ i
+abbrev PlacedAt : ℕ → Result Instruction ℕ → Type 0
+PlacedAt i (Ok v) = Unit
+PlacedAt i (Err k) = k ≡ i
 
 -- the place of a fault is the index
-pub fault-place : (code : List ℕ) (i n m k : ℕ) → decode_at code i n m ≡ Fault k → k ≡ i
+pub fault-place : (code : List ℕ) (i n m k : ℕ) → decode_at code i n m ≡ Err k → k ≡ i
 fault-place code i n m k h = subst (PlacedAt i) h (of-answer (PlacedAt i) n m code i (λ there kept. tt) refl)
 
-abbrev BuiltAs : Instruction → Decoded → Type 0
-BuiltAs i (Valid v) = v ≡ i
-BuiltAs i (Fault k) = Unit
+abbrev BuiltAs : Instruction → Result Instruction ℕ → Type 0
+BuiltAs i (Ok v) = v ≡ i
+BuiltAs i (Err k) = Unit
 
 -- what is decoded is what the fields make
-pub decoded-built : (code : List ℕ) (i n m : ℕ) (v : Instruction) → decode_at code i n m ≡ Valid v → v ≡ built_from (fields_at code i)
+pub decoded-built : (code : List ℕ) (i n m : ℕ) (v : Instruction) → decode_at code i n m ≡ Ok v → v ≡ built_from (fields_at code i)
 decoded-built code i n m v h =
     let made = built_from (fields_at code i) in
     subst (BuiltAs made) h (of-answer (BuiltAs made) n m code i (λ there kept. refl) tt)
 
 -- each index below N of an accepted image decodes, to an instruction whose fields fit
 pub decodes : (s : List ℕ) → Bytes s → Accepted s → (i : ℕ) → i < field_n s
-    → (v : Instruction) × (decode_at (code_part s (field_n s)) i (field_n s) (field_m s) ≡ Valid v) × Fits (field_n s) (field_m s) v
+    → (v : Instruction) × (decode_at (code_part s (field_n s)) i (field_n s) (field_m s) ≡ Ok v) × Fits (field_n s) (field_m s) v
 decodes s b a i l =
     let found = a.code i l in
     (found.0, found.1, decoded-fits (code_part s (field_n s)) i (field_n s) (field_m s) found.0 (bytes-part s header_size (instruction_size * field_n s) b) found.1)

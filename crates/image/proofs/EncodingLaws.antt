@@ -25,8 +25,7 @@ use Rattle.image.specs.declared.Instruction.{Instruction}
 use Rattle.image.specs.declared.Instruction.TheVariants.{Stop, Move, Compute, Load, Store, Jump, Emit, Mark}
 use Rattle.image.specs.declared.rows.Row.{Row}
 use Rattle.image.specs.declared.rows.Row.TheVariants.{Stops, Moves, Computes, Loads, Stores, Jumps, Emits, Marks, Missing}
-use Rattle.image.specs.declared.Decoded.{Decoded}
-use Rattle.image.specs.declared.Decoded.TheVariants.{Valid, Fault}
+use Rattle.std.specs.Prelude.{Result, Ok, Err}
 use Rattle.image.proofs.Tests.{apart, both, all_three, all-four, every-below}
 use Rattle.rules.proofs.Bits.{lt-or-ge}
 use Rattle.image.proofs.Decoding.{writable-passes, of-answer}
@@ -86,11 +85,11 @@ unfolding row_of fields_ok
 has-row op d a b imm n m h = ⊎_elim (λ (l : op < length rows). l) (λ (g : length rows ≤ op). apart (sym (rw (get_or-eq_default rows Missing g) at h))) (lt-or-ge op (length rows))
 
 -- ---- what is decoded stands there
-abbrev Stands : Fields → Decoded → Type 0
-Stands f (Valid v) = encoded v ≡ f
-Stands f (Fault k) = Unit
+abbrev Stands : Fields → Result Instruction ℕ → Type 0
+Stands f (Ok v) = encoded v ≡ f
+Stands f (Err k) = Unit
 
-pub decoded-encoding : (code : List ℕ) (i n m : ℕ) (v : Instruction) → decode_at code i n m ≡ Valid v → encoded v ≡ fields_at code i
+pub decoded-encoding : (code : List ℕ) (i n m : ℕ) (v : Instruction) → decode_at code i n m ≡ Ok v → encoded v ≡ fields_at code i
 decoded-encoding code i n m v h =
     let f = fields_at code i in
     subst (Stands f) h
@@ -140,7 +139,7 @@ operand-there (Literal x) h = (refl, refl)
 range-there : (start size : ℕ) → start < 2 ^ 16 → (range_start (start + 2 ^ 16 * size) ≡ start) × (range_length (start + 2 ^ 16 * size) ≡ size)
 range-there start size l = (omega arith, omega arith)
 
-there : (v : Instruction) (i n m : ℕ) → (encoded v).op < ops → StartFits v → Fits n m v → decoded_from (encoded v) i n m ≡ Valid v
+there : (v : Instruction) (i n m : ℕ) → (encoded v).op < ops → StartFits v → Fits n m v → decoded_from (encoded v) i n m ≡ Ok v
 unfolding decoded row_of fields_ok built encoded
 there Stop i n m g l h = refl
 there (Move d b) i n m g l h =
@@ -157,7 +156,7 @@ there (Mark addressable start size) i n m g l h =
     let r = range-there start size l in
     rw (row-of-mark addressable, r.0, r.1, le-leb 1 size h.0, le-leb (start + size) m h.1)
 
-pub encoding-decodes : (code : List ℕ) (i n m : ℕ) (v : Instruction) → StandsAt code i n m v → decode_at code i n m ≡ Valid v
+pub encoding-decodes : (code : List ℕ) (i n m : ℕ) (v : Instruction) → StandsAt code i n m v → decode_at code i n m ≡ Ok v
 unfolding decode_at
 encoding-decodes code i n m v s = rw (lt-ltb i (length code / instruction_size) s.there) (ap (λ (f : Fields). decoded_from f i n m) s.same ∙ there v i n m s.known s.start s.fits)
 
@@ -175,11 +174,11 @@ start_fits (Marks addressable) d a b imm = omega arith
 start_fits Missing d a b imm = tt
 
 -- its eight bytes are there, its op is below 25, and a start is in imm's low half
-abbrev Within : List ℕ → ℕ → Decoded → Type 0
-Within code i (Valid v) = (i < length code / instruction_size) × ((fields_at code i).op < ops) × StartFits v
-Within code i (Fault k) = Unit
+abbrev Within : List ℕ → ℕ → Result Instruction ℕ → Type 0
+Within code i (Ok v) = (i < length code / instruction_size) × ((fields_at code i).op < ops) × StartFits v
+Within code i (Err k) = Unit
 
-decoded-within : (code : List ℕ) (i n m : ℕ) (v : Instruction) → decode_at code i n m ≡ Valid v → Within code i (Valid v)
+decoded-within : (code : List ℕ) (i n m : ℕ) (v : Instruction) → decode_at code i n m ≡ Ok v → Within code i (Ok v)
 decoded-within code i n m v h =
     let f = fields_at code i in
     subst (Within code i) h
@@ -188,23 +187,23 @@ decoded-within code i n m v h =
     tt)
 
 module _ (code : List ℕ) (i n m : ℕ) (b : Bytes code) where
-  pub decoded-reads : (r : Decoded) → r ≡ decode_at code i n m → ReadsAs code i n m r
+  pub decoded-reads : (r : Result Instruction ℕ) → r ≡ decode_at code i n m → ReadsAs code i n m r
   unfolding ReadsAs
-  decoded-reads (Valid v) e =
+  decoded-reads (Ok v) e =
       let w = decoded-within code i n m v (sym e) in
       let same = sym (decoded-encoding code i n m v (sym e)) in
       record { there = w.0; same = same; known = subst (λ (f : Fields). f.op < ops) same w.1; fits = decoded-fits code i n m v b (sym e); start = w.2 }
-  decoded-reads (Fault k) e = (fault-place code i n m k (sym e), λ v s. never (encoding-decodes code i n m v s) e)
+  decoded-reads (Err k) e = (fault-place code i n m k (sym e), λ v s. never (encoding-decodes code i n m v s) e)
     where
-      never : {v : Instruction} → decode_at code i n m ≡ Valid v → Fault k ≡ decode_at code i n m → ⊥
+      never : {v : Instruction} → decode_at code i n m ≡ Ok v → Err k ≡ decode_at code i n m → ⊥
       never p q = let z : ◌≡◌ {A = ℕ} 0 1 = cc in omega arith
 
   -- no other answer keeps it
-  pub reads-decoded : (r : Decoded) → ReadsAs code i n m r → r ≡ decode_at code i n m
+  pub reads-decoded : (r : Result Instruction ℕ) → ReadsAs code i n m r → r ≡ decode_at code i n m
   unfolding ReadsAs
-  reads-decoded (Valid v) s = sym (encoding-decodes code i n m v s)
-  reads-decoded (Fault k) s = go (decode_at code i n m) refl
+  reads-decoded (Ok v) s = sym (encoding-decodes code i n m v s)
+  reads-decoded (Err k) s = go (decode_at code i n m) refl
     where
-      go : (t : Decoded) → decode_at code i n m ≡ t → Fault k ≡ t
-      go (Valid v) h = absurd (s.1 v (decoded-reads (Valid v) (sym h)))
-      go (Fault j) h = ap Fault (s.0 ∙ sym (fault-place code i n m j h))
+      go : (t : Result Instruction ℕ) → decode_at code i n m ≡ t → Err k ≡ t
+      go (Ok v) h = absurd (s.1 v (decoded-reads (Ok v) (sym h)))
+      go (Err j) h = ap Err (s.0 ∙ sym (fault-place code i n m j h))

@@ -9,17 +9,16 @@ use lib.Dec.{leb, eqb}
 use lib.ListN.{length}
 use Rattle.image.specs.Format.{header_size, field_m, field_n, field_r, field_d, magic_ok, limits_ok, layout_ok, code_part, region_part}
 use Rattle.image.specs.Regions.{region_ok, filled_sum}
-use Rattle.image.specs.Refusals.{too_short, wrong_magic, out_of_limits, wrong_layout, bad_instruction, bad_region, wrong_sum, refused, accepted, unless, or_else, first_fault, instruction_ok, code_refusal, region_refusal, sum_refusal, content_refusal, refusal_with, refusal_of}
-use Rattle.image.specs.declared.Refusal.{Refusal}
+use Rattle.image.specs.Refusals.{Verdict, too_short, wrong_magic, out_of_limits, wrong_layout, bad_instruction, bad_region, wrong_sum, refused, accepted, unless, or_else, first_fault, instruction_ok, code_refusal, region_refusal, sum_refusal, content_refusal, refusal_with, refusal_of}
 use Rattle.image.proofs.Faults.{Lowest, fault-lowest}
 
 -- a refusal with another number was not this one
-other : (ok : Bool) (number k : ℕ) (rest : Refusal) → (number ≡ k → ⊥) → (unless ok number rest).number ≡ k → (unless ok number rest ≡ rest) × (rest.number ≡ k)
+other : (ok : Bool) (number k : ℕ) (rest : Verdict) → (number ≡ k → ⊥) → (unless ok number rest).number ≡ k → (unless ok number rest ≡ rest) × (rest.number ≡ k)
 other true number k rest p h = (refl, h)
 other false number k rest p h = absurd (p h)
 
 -- one that carries a number comes from the first or, if that does not refuse, from the second
-which : (a b : Refusal) (k : ℕ) → (or_else a b).number ≡ k → ((or_else a b ≡ a) × (a.number ≡ k)) ⊎ ((or_else a b ≡ b) × (b.number ≡ k))
+which : (a b : Verdict) (k : ℕ) → (or_else a b).number ≡ k → ((or_else a b ≡ a) × (a.number ≡ k)) ⊎ ((or_else a b ≡ b) × (b.number ≡ k))
 which a b k h = go (eqb a.number 0) refl h
   where
     go : (t : Bool) → eqb a.number 0 ≡ t → (cond t b a).number ≡ k → ((cond t b a ≡ a) × (a.number ≡ k)) ⊎ ((cond t b a ≡ b) × (b.number ≡ k))
@@ -32,7 +31,7 @@ unfolding first_fault
 number_of number ok i zero = inl refl
 number_of number ok i (suc count) = go (ok i) (number_of number ok (suc i) count)
   where
-    rest : Refusal
+    rest : Verdict
     rest = first_fault number ok (suc i) count
 
     go : (t : Bool) → (rest.number ≡ 0) ⊎ (rest.number ≡ number) → ((cond t rest (refused number i)).number ≡ 0) ⊎ ((cond t rest (refused number i)).number ≡ number)
@@ -44,10 +43,10 @@ not-another : (number k : ℕ) (ok : ℕ → Bool) (count : ℕ) → 0 < k → (
 not-another number k ok count p q h = ⊎_elim (λ z. omega (arith, z, h)) (λ z. q (sym z ∙ h)) (number_of number ok 0 count)
 
 -- an answer that is a search's carries its index
-carried : (number : ℕ) (ok : ℕ → Bool) (count : ℕ) (t : Refusal) → 0 < number
+carried : (number : ℕ) (ok : ℕ → Bool) (count : ℕ) (t : Verdict) → 0 < number
     → (t ≡ first_fault number ok 0 count) × ((first_fault number ok 0 count).number ≡ number) → Lowest ok 0 count t.index
 carried number ok count t p f =
-    subst (λ (t : Refusal). Lowest ok 0 count t.index) (sym f.0) (fault-lowest number ok 0 count (λ z. omega (arith, z, f.1)))
+    subst (λ (t : Verdict). Lowest ok 0 count t.index) (sym f.0) (fault-lowest number ok 0 count (λ z. omega (arith, z, f.1)))
 
 module _ (s : List ℕ) (m n r d : ℕ) where
   -- a number above 4 comes from the parts

@@ -8,8 +8,7 @@ use native.Mathlib.Nat.{sub-zero, eq-or-lt_of_le}
 use native.Mathlib.Omega.{arith}
 use lib.Dec.{eqb}
 use borrow.Author.Tests.{eqb-true, eqb-false}
-use Rattle.image.specs.Refusals.{refused, accepted, or_else, first_fault}
-use Rattle.image.specs.declared.Refusal.{Refusal}
+use Rattle.image.specs.Refusals.{Verdict, refused, accepted, or_else, first_fault}
 
 -- ---- the loop
 pub fault-start : (number : ℕ) (ok : ℕ → Bool) (n : ℕ) → first_fault number ok 0 (n - 0) ≡ first_fault number ok 0 n
@@ -33,11 +32,11 @@ module _ (number : ℕ) (ok : ℕ → Bool) (i n : ℕ) where
 
 -- ---- the answer
 -- a test that was passed, and the rest with it
-pub passed : (ok : Bool) (number i : ℕ) (rest : Refusal) → 0 < number → (cond ok rest (refused number i)).number ≡ 0 → (ok ≡ true) × (rest.number ≡ 0)
+pub passed : (ok : Bool) (number i : ℕ) (rest : Verdict) → 0 < number → (cond ok rest (refused number i)).number ≡ 0 → (ok ≡ true) × (rest.number ≡ 0)
 passed true number i rest p h = (refl, h)
 passed false number i rest p h = absurd (let z : number ≡ 0 = h in omega arith)
 
-pub both-passed : (a b : Refusal) → (or_else a b).number ≡ 0 → (a.number ≡ 0) × (b.number ≡ 0)
+pub both-passed : (a b : Verdict) → (or_else a b).number ≡ 0 → (a.number ≡ 0) × (b.number ≡ 0)
 both-passed a b h = go (eqb a.number 0) refl h
   where
     go : (t : Bool) → eqb a.number 0 ≡ t → (cond t b a).number ≡ 0 → (a.number ≡ 0) × (b.number ≡ 0)
@@ -72,7 +71,7 @@ unfolding first_fault
 fault-lowest number ok i zero h = absurd (h refl)
 fault-lowest number ok i (suc count) h = go (ok i) refl h (fault-lowest number ok (suc i) count)
   where
-    rest : Refusal
+    rest : Verdict
     rest = first_fault number ok (suc i) count
 
     go : (t : Bool) → ok i ≡ t → ((cond t rest (refused number i)).number ≡ 0 → ⊥) → ((rest.number ≡ 0 → ⊥) → Lowest ok (suc i) count rest.index)

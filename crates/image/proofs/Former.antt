@@ -7,10 +7,8 @@ use native.Mathlib.Omega.{arith}
 use lib.ListN.{length}
 use lib.Dec.{leb}
 use Rattle.image.specs.Format.{header_size, field_m, field_n, field_r, field_d, magic_ok, limits_ok, code_part}
-use Rattle.image.specs.Refusals.{too_short, wrong_magic, out_of_limits, header_with, refusal_of, header_of, code_of}
+use Rattle.image.specs.Refusals.{Reading, Verdict, too_short, wrong_magic, out_of_limits, header_with, refusal_of, header_of, code_of}
 use Rattle.image.specs.Former.{former_limits_ok, KeepsFormer, former_refusal, former_header, former_code}
-use Rattle.image.specs.declared.Refusal.{Refusal}
-use Rattle.image.specs.declared.Header.{Header}
 use Rattle.image.proofs.Faults.{passed}
 use Rattle.image.proofs.AcceptedImage.{within-holds, limits-pass}
 
@@ -34,11 +32,11 @@ read-as-before s h = rw (h, limits-grow (field_m s) (field_n s) (field_r s) (fie
 
 pub header-as-before : (s : List ℕ) → KeepsFormer s → header_of s ≡ former_header s
 unfolding header_of former_header
-header-as-before s h = ap (λ (r : Refusal). header_with r s) (read-as-before s h)
+header-as-before s h = ap (λ (r : Verdict). header_with r s) (read-as-before s h)
 
 pub code-as-before : (s : List ℕ) → KeepsFormer s → code_of s ≡ former_code s
 unfolding code_of former_code
-code-as-before s h = ap (λ (found : Header). code_part s found.n) (header-as-before s h)
+code-as-before s h = ap (λ (found : Reading). code_part s found.n) (header-as-before s h)
 
 -- what was accepted keeps the limits
 pub accepted-kept : (s : List ℕ) → (former_refusal s).number ≡ 0 → KeepsFormer s

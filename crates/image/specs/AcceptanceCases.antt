@@ -2,8 +2,7 @@
 -- no) and 02, L1, L5 and L9: each number by itself, two at once, the lowest of several indices, and the edges; and register 15. proofs/AcceptanceCases.antt
 -- says that the definitions give them.
 use Rattle.std.specs.Prelude.{ℕ, ◌+◌, List, [], ◌∷◌, ◌++◌, map, take, set}
-use Rattle.image.specs.Refusals.{refused}
-use Rattle.image.specs.declared.Refusal.{Refusal}
+use Rattle.image.specs.Refusals.{Verdict, refused}
 
 -- an image that is accepted: M 8; three instructions, three regions, three bytes of data; 95 bytes
 abbrev pub base : List ℕ
@@ -83,7 +82,7 @@ region_of_8192 s₀ s₁ = set (set (set (set base 4 0) 5 0x20) 80 s₀) 81 s₁
 -- ---- the cases
 pub record RefusalCase : Type 0 where
   pub image : List ℕ
-  pub refusal : Refusal
+  pub refusal : Verdict
 
 abbrev refusal_case : List ℕ → (number index : ℕ) → RefusalCase
 refusal_case image number index = record { image = image; refusal = refused number index }

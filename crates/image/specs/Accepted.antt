@@ -1,6 +1,6 @@
 -- What an accepted image is, and how far the fields of its instructions reach: what the crates above use of an image.
 -- `accepted-image` and `image-accepted` in proofs/AcceptedImage.antt say that the reader accepts these images and no others.
-use Rattle.std.specs.Prelude.{ℕ, ◌+◌, ◌^◌, ◌≤◌, ◌<◌, ◌≡◌, ◌⊎◌, ◌≢◌, List, length, take}
+use Rattle.std.specs.Prelude.{ℕ, ◌+◌, ◌^◌, ◌≤◌, ◌<◌, ◌≡◌, ◌⊎◌, ◌≢◌, List, length, take, Ok}
 use Rattle.image.specs.Format.{magic, header_size, most_m, most_n, most_r, most_d, registers, frame_register, ports, regions_at, data_at, size_of, field_m, field_n, field_r, field_d, code_offset, region_offset, data_offset, code_part, region_part}
 use Rattle.image.specs.Rows.{decode_at}
 use Rattle.image.specs.Regions.{filled_kind, undefined_kind, region_at, end_of, end_before, filled_sum}
@@ -8,7 +8,6 @@ use Rattle.image.specs.declared.Operand.{Operand}
 use Rattle.image.specs.declared.Operand.TheVariants.{Register, Literal}
 use Rattle.image.specs.declared.Instruction.{Instruction}
 use Rattle.image.specs.declared.Instruction.TheVariants.{Stop, Move, Compute, Load, Store, Jump, Emit, Mark}
-use Rattle.image.specs.declared.Decoded.TheVariants.{Valid}
 use Rattle.image.specs.declared.Region.{Region}
 
 pub record Limits (m n r d : ℕ) : Type 0 where
@@ -39,7 +38,7 @@ pub record AcceptedWith (s : List ℕ) (m n r d : ℕ) : Type 0 where
   pub starts : take (length magic) s ≡ magic
   pub limits : Limits m n r d
   pub layout : Layout s n r d
-  pub code : (i : ℕ) → i < n → (v : Instruction) × (decode_at (code_part s n) i n m ≡ Valid v)
+  pub code : (i : ℕ) → i < n → (v : Instruction) × (decode_at (code_part s n) i n m ≡ Ok v)
   pub regions : (i : ℕ) → i < r → Keeps (region_at (region_part s n r) i) (end_before (region_part s n r) i) m
   pub sum : filled_sum (region_part s n r) r ≡ d
 

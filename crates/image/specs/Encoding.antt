@@ -1,7 +1,7 @@
 -- The number and the fields that document 01's table (ops 21 to 24: 02, L1) gives for each case of the decoded instruction, and what a
 -- decoded answer says by them. `decode` promises this beside its equation with `decode_at`; `decoded-reads` and `reads-decoded` in proofs/EncodingLaws.antt say that
 -- each of the two follows from the other.
-use Rattle.std.specs.Prelude.{ℕ, ◌+◌, ◌*◌, ◌/◌, ◌^◌, ◌<◌, ◌≡◌, Bool, true, false, List, length}
+use Rattle.std.specs.Prelude.{ℕ, ◌+◌, ◌*◌, ◌/◌, ◌^◌, ◌<◌, ◌≡◌, Bool, true, false, List, length, Result, Ok, Err}
 use Rattle.rules.specs.declared.Operation.{Operation}
 use Rattle.rules.specs.declared.Operation.TheVariants.{Add, Sub, Mul, And, Or, Xor, Shl, Shr, Sar, Eq, Ltu}
 use Rattle.image.specs.Format.{instruction_size}
@@ -15,8 +15,6 @@ use Rattle.image.specs.declared.Widening.{Widening}
 use Rattle.image.specs.declared.Widening.TheVariants.{Zero, Sign}
 use Rattle.image.specs.declared.Instruction.{Instruction}
 use Rattle.image.specs.declared.Instruction.TheVariants.{Stop, Move, Compute, Load, Store, Jump, Emit, Mark}
-use Rattle.image.specs.declared.Decoded.{Decoded}
-use Rattle.image.specs.declared.Decoded.TheVariants.{Valid, Fault}
 
 abbrev pub fields : (op d a b imm : ℕ) → Fields
 fields op d a b imm = record { op = op; d = d; a = a; b = b; imm = imm }
@@ -98,6 +96,6 @@ pub record StandsAt (code : List ℕ) (i n m : ℕ) (instruction : Instruction) 
   pub start : StartFits instruction
 
 -- a decoded instruction stands at the index; the place of a fault is the index, and no instruction stands there
-unfoldable pub ReadsAs : (code : List ℕ) (i n m : ℕ) → Decoded → Type 0
-ReadsAs code i n m (Valid instruction) = StandsAt code i n m instruction
-ReadsAs code i n m (Fault k) = (k ≡ i) × ((instruction : Instruction) → StandsAt code i n m instruction → ⊥)
+unfoldable pub ReadsAs : (code : List ℕ) (i n m : ℕ) → Result Instruction ℕ → Type 0
+ReadsAs code i n m (Ok instruction) = StandsAt code i n m instruction
+ReadsAs code i n m (Err k) = (k ≡ i) × ((instruction : Instruction) → StandsAt code i n m instruction → ⊥)

@@ -1,5 +1,5 @@
 -- The table of instructions (01, What a card holds; ops 21 to 24: 02, L1; register 15 is not written: 02, L9): the row of each op, which fields keep it, and the instruction that they make.
-use Rattle.std.specs.Prelude.{ℕ, ◌+◌, ◌*◌, ◌/◌, ◌%◌, ◌^◌, Bool, true, false, cond, not, ◌&&◌, ◌||◌, List, [], ◌∷◌, length, get_or, ltb, leb, eqb}
+use Rattle.std.specs.Prelude.{ℕ, ◌+◌, ◌*◌, ◌/◌, ◌%◌, ◌^◌, Bool, true, false, cond, not, ◌&&◌, ◌||◌, List, [], ◌∷◌, length, get_or, ltb, leb, eqb, Result, Ok, Err}
 use Rattle.rules.specs.declared.Operation.TheVariants.{Add, Sub, Mul, And, Or, Xor, Shl, Shr, Sar, Eq, Ltu}
 use Rattle.image.specs.Words.{nth_word}
 use Rattle.image.specs.Format.{instruction_size, registers, frame_register, ports}
@@ -11,8 +11,6 @@ use Rattle.image.specs.declared.Instruction.{Instruction}
 use Rattle.image.specs.declared.Instruction.TheVariants.{Stop, Move, Compute, Load, Store, Jump, Emit, Mark}
 use Rattle.image.specs.declared.rows.Row.{Row}
 use Rattle.image.specs.declared.rows.Row.TheVariants.{Stops, Moves, Computes, Loads, Stores, Jumps, Emits, Marks, Missing}
-use Rattle.image.specs.declared.Decoded.{Decoded}
-use Rattle.image.specs.declared.Decoded.TheVariants.{Valid, Fault}
 
 -- the row of op 0, of op 1, .. ; OPEN marks bytes as addressable, CLOSE as not
 abbrev pub rows : List Row
@@ -100,8 +98,8 @@ built (Marks addressable) d a b imm = Mark addressable (range_start imm) (range_
 built Missing d a b imm = Stop
 
 -- the instruction with these fields, or the place of the fault
-unfoldable pub decoded : Row → (d a b imm i n m : ℕ) → Decoded
-decoded row d a b imm i n m = cond (fields_ok row d a b imm n m) (Valid (built row d a b imm)) (Fault i)
+unfoldable pub decoded : Row → (d a b imm i n m : ℕ) → Result Instruction ℕ
+decoded row d a b imm i n m = cond (fields_ok row d a b imm n m) (Ok (built row d a b imm)) (Err i)
 
 -- the fields of instruction number i: four bytes op, d, a, b and a word imm
 pub record Fields : Type 0 where
@@ -121,9 +119,9 @@ fields_at code i = record { op = byte 0; d = byte 1; a = byte 2; b = byte 3; imm
 abbrev pub built_from : Fields → Instruction
 built_from f = built (row_of f.op) f.d f.a f.b f.imm
 
-abbrev pub decoded_from : Fields → (i n m : ℕ) → Decoded
+abbrev pub decoded_from : Fields → (i n m : ℕ) → Result Instruction ℕ
 decoded_from f i n m = decoded (row_of f.op) f.d f.a f.b f.imm i n m
 
 -- instruction number i of the code; code that ends before its eight bytes is at fault
-unfoldable pub decode_at : List ℕ → ℕ → ℕ → ℕ → Decoded
-decode_at code i n m = cond (ltb i (length code / instruction_size)) (decoded_from (fields_at code i) i n m) (Fault i)
+unfoldable pub decode_at : List ℕ → ℕ → ℕ → ℕ → Result Instruction ℕ
+decode_at code i n m = cond (ltb i (length code / instruction_size)) (decoded_from (fields_at code i) i n m) (Err i)

@@ -35,11 +35,6 @@ pub const MOST_R: u32 = 32;
 
 pub const MOST_D: u32 = 8_192;
 
-// The kinds of region: the image has its bytes; addressable but undefined.
-pub const FILLED: u32 = 1;
-
-pub const UNDEFINED: u32 = 2;
-
 // How many registers an instruction can name.
 pub const REGISTERS: usize = 16;
 

@@ -7,18 +7,23 @@ use rules::{Data, Operation};
 
 pub mod format; // format.rt: the fixed numbers of an image, and its parts
 pub mod ops; // ops.rt: the numbers of the ops
-pub mod refusals; // refusals.rt: the numbers of the refusals
+mod entries; // entries.rt: the refusals for instructions and regions
+mod kinds; // kinds.rt: the kinds of region
 mod reader; // reader.rt: the refusals of reading, and what is handed back
+mod refusals; // refusals.rt: the refusals, with their numbers and indices
 mod regions; // regions.rt: the regions and their rules
 mod rows; // rows.rt: the table of instructions
 mod words; // words.rt: words of a slice
 
-pub use reader::{code, read, refuse};
+pub use entries::{Entries, check_content};
+pub use kinds::Kind;
+pub use reader::{code, read};
+pub use refusals::Refusal;
 pub use regions::{end_of, filled_of, region_at, region_keeps};
 pub use rows::decode;
 
 // The second operand, B.
-#[derive(Clone, Copy)]
+#[derive(Clone, Copy, PartialEq, Eq)]
 pub enum Operand {
     Register(u8),
     Literal(Data),
@@ -82,34 +87,19 @@ pub enum Instruction {
     },
 }
 
-// An instruction, or the index of the one that breaks its row.
-#[derive(Clone, Copy)]
-pub enum Decoded {
-    Valid(Instruction),
-    Fault(usize),
-}
-
 // A region: where it starts, how many bytes it has, and its kind.
 #[derive(Clone, Copy)]
 pub struct Region {
     pub start: u32,
     pub size: u32,
-    pub kind: u32,
+    pub kind: Kind,
 }
 
-// A refusal's number and the index at fault; zeros where nothing is refused.
-#[derive(Clone, Copy)]
-pub struct Refusal {
-    pub number: u8,
-    pub index: usize,
-}
-
-// M, N, R and D, zeros when refused, and the refusal.
+// M, N, R and D: the bytes of memory; how many instructions, regions and bytes of data there are.
 #[derive(Clone, Copy)]
 pub struct Header {
     pub m: u32,
     pub n: u32,
     pub r: u32,
     pub d: u32,
-    pub refusal: Refusal,
 }

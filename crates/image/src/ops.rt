@@ -1,5 +1,6 @@
 // The ops by their names (document 01, the table of instructions; 21 to 24: 02, L1), and the mark of a
-// literal.
+// literal. They are bytes of an image, and numbers for that reason: `row_of` in rows.rt makes an enum of
+// them.
 pub const STOP: u8 = 0;
 
 pub const MOV: u8 = 1;

@@ -1,16 +1,43 @@
-// The numbers of the refusals (document 01, When the bench says no); 0 says that nothing is refused.
-pub const ACCEPTED: u8 = 0;
+// The refusals of reading (document 01, When the bench says no): the number of each, and the index at
+// fault, where it names one.
+ghost use Rattle.std.specs.Prelude.{◌≡◌};
+ghost use Rattle.image.specs.Refusals.{number_of, index_of};
 
-pub const TOO_SHORT: u8 = 1;
+// Why an image is refused.
+#[derive(Clone, Copy, Debug, PartialEq, Eq)]
+pub enum Refusal {
+    TooShort,
+    WrongMagic,
+    OutOfLimits,
+    WrongLayout,
+    BadInstruction(usize),
+    BadRegion(usize),
+    WrongSum,
+}
 
-pub const WRONG_MAGIC: u8 = 2;
+impl Refusal {
+    // Its number.
+    pub fn number(self) -> u8
+        ensures { result ≡ number_of self }
+    {
+        match self {
+            Refusal::TooShort => 1,
+            Refusal::WrongMagic => 2,
+            Refusal::OutOfLimits => 3,
+            Refusal::WrongLayout => 4,
+            Refusal::BadInstruction(_) => 5,
+            Refusal::BadRegion(_) => 6,
+            Refusal::WrongSum => 7,
+        }
+    }
 
-pub const OUT_OF_LIMITS: u8 = 3;
-
-pub const WRONG_LAYOUT: u8 = 4;
-
-pub const BAD_INSTRUCTION: u8 = 5;
-
-pub const BAD_REGION: u8 = 6;
-
-pub const WRONG_SUM: u8 = 7;
+    // The index of the instruction or region at fault; 0 where none is named.
+    pub fn index(self) -> usize
+        ensures { result ≡ index_of self }
+    {
+        match self {
+            Refusal::BadInstruction(index) | Refusal::BadRegion(index) => index,
+            _ => 0,
+        }
+    }
+}

@@ -6,9 +6,19 @@ ghost use Rattle.image.specs.Encoding.{ReadsAs};
 
 use super::format::{HALF, INSTRUCTION, PORTS};
 use super::ops::LITERAL;
-use super::{Data, Decoded, Instruction, Operand, Operation, Widening, Width, format, ops, words};
+use super::{Data, Instruction, Operand, Operation, Widening, Width, format, ops, words};
 
-// The row of an op, before its fields are looked at; ops above the last have none.
+// The fields of an instruction after its op.
+#[derive(Clone, Copy)]
+struct Fields {
+    d: u8,
+    a: u8,
+    b: u8,
+    imm: u32,
+}
+
+// The row of an op, before its fields are looked at. Ops above the last have none: that is a case here and
+// no `None`, as the definitions make an instruction of any row, and would need one for it as well.
 #[derive(Clone, Copy)]
 enum Row {
     Stops,
@@ -83,9 +93,10 @@ fn range_ok(imm: u32, m: u32) -> bool
 
 // Whether the fields keep their row; an unused field is 0.
 #[tactic(auto, unfolding(crate::specs::Rows::fields_ok))]
-fn fields_ok(row: Row, d: u8, a: u8, b: u8, imm: u32, n: u32, m: u32) -> bool
-    ensures { result ≡ fields_ok row d a b imm n m }
+fn fields_ok(row: Row, fields: Fields, n: u32, m: u32) -> bool
+    ensures { result ≡ fields_ok row fields.d fields.a fields.b fields.imm n m }
 {
+    let Fields { d, a, b, imm } = fields;
     match row {
         Row::Stops => (d == 0) & (a == 0) & (b == 0) & (imm == 0),
         Row::Moves => writable(d) & (a == 0) & operand_ok(b, imm),
@@ -111,38 +122,34 @@ fn operand_of(b: u8, imm: u32) -> Operand
 
 // The instruction of fields that keep their row; of no row there is none, and the answer is not used.
 #[tactic(auto, unfolding(crate::specs::Rows::built))]
-fn build(row: Row, d: u8, a: u8, b: u8, imm: u32) -> Instruction
-    ensures { result ≡ built row d a b imm }
+fn build(row: Row, fields: Fields) -> Instruction
+    ensures { result ≡ built row fields.d fields.a fields.b fields.imm }
 {
+    let Fields { d, a, b, imm } = fields;
     match row {
         Row::Stops => Instruction::Stop,
         Row::Moves => Instruction::Move {
-            d: d,
+            d,
             b: operand_of(b, imm),
         },
         Row::Computes(op) => Instruction::Compute {
-            op: op,
-            d: d,
-            a: a,
+            op,
+            d,
+            a,
             b: operand_of(b, imm),
         },
         Row::Loads(width, widening) => Instruction::Load {
-            width: width,
-            widening: widening,
-            d: d,
-            a: a,
-            imm: imm,
+            width,
+            widening,
+            d,
+            a,
+            imm,
         },
-        Row::Stores(width) => Instruction::Store {
-            width: width,
-            d: d,
-            a: a,
-            imm: imm,
-        },
-        Row::Jumps => Instruction::Jump { a: a, target: imm },
-        Row::Emits => Instruction::Emit { a: a, port: imm },
+        Row::Stores(width) => Instruction::Store { width, d, a, imm },
+        Row::Jumps => Instruction::Jump { a, target: imm },
+        Row::Emits => Instruction::Emit { a, port: imm },
         Row::Marks(addressable) => Instruction::Mark {
-            addressable: addressable,
+            addressable,
             start: imm % HALF,
             size: imm / HALF,
         },
@@ -151,36 +158,39 @@ fn build(row: Row, d: u8, a: u8, b: u8, imm: u32) -> Instruction
 }
 
 #[tactic(auto, unfolding(crate::specs::Rows::decoded))]
-fn decode_fields(row: Row, d: u8, a: u8, b: u8, imm: u32, index: usize, n: u32, m: u32) -> Decoded
-    ensures { result ≡ decoded row d a b imm index n m }
+fn decode_fields(
+    row: Row,
+    fields: Fields,
+    index: usize,
+    n: u32,
+    m: u32,
+) -> Result<Instruction, usize>
+    ensures { result ≡ decoded row fields.d fields.a fields.b fields.imm index n m }
 {
-    if fields_ok(row, d, a, b, imm, n, m) {
-        Decoded::Valid(build(row, d, a, b, imm))
+    if fields_ok(row, fields, n, m) {
+        Ok(build(row, fields))
     } else {
-        Decoded::Fault(index)
+        Err(index)
     }
 }
 
 // Instruction number index of the code of an image with n instructions and m bytes of memory, or the
-// index where there is none that keeps its row.
-pub fn decode(code: &[u8], index: usize, n: u32, m: u32) -> Decoded
+// index where there is none that keeps its row. N and M are two numbers, and no header, as document 01
+// words the rows by them.
+pub fn decode(code: &[u8], index: usize, n: u32, m: u32) -> Result<Instruction, usize>
     ensures value { result ≡ decode_at code.now index n m }
     ensures reads_as { ReadsAs code.now index n m result }
 {
     if index < code.len() / INSTRUCTION {
         let at = INSTRUCTION * index;
-        let imm = words::nth(code, 2 * index + 1);
-        decode_fields(
-            row_of(code[at]),
-            code[at + 1],
-            code[at + 2],
-            code[at + 3],
-            imm,
-            index,
-            n,
-            m,
-        )
+        let fields = Fields {
+            d: code[at + 1],
+            a: code[at + 2],
+            b: code[at + 3],
+            imm: words::nth(code, 2 * index + 1),
+        };
+        decode_fields(row_of(code[at]), fields, index, n, m)
     } else {
-        Decoded::Fault(index)
+        Err(index)
     }
 }

@@ -1,7 +1,7 @@
 -- What each byte gets at the beginning (01, Beginning): the filled ones the image's data, A 1 and V 0; those of kind 2 A 1 and V 255; all others A 0
 -- and V 255. Where the image gives no data, the data is untouched.
 use Prim.Native.Nat.{ℕ, zero, suc, ◌+◌, ◌≤◌, ◌<◌}
-use mathlib.Core.Path.{◌≡◌, refl, subst, ◌∙◌}
+use mathlib.Core.Path.{ap, ◌≡◌, refl, subst, ◌∙◌}
 use mathlib.Core.Logic.{◌⊎◌, inl, inr, ⊎_elim}
 use mathlib.Core.Bool.{Bool, true, false, cond}
 use mathlib.Core.List.{List}
@@ -11,7 +11,7 @@ use lib.ListN.{length, get_or, replicate, length-replicate, get_or-replicate}
 use borrow.Author.Tests.{eq-eqb, ne_eqb}
 use Rattle.rules.proofs.Bits.{lt-or-ge}
 use Rattle.image.specs.Format.{field_m, field_r}
-use Rattle.image.specs.Regions.{filled_kind, undefined_kind, region_at, end_of, filled_sum}
+use Rattle.image.specs.Regions.{filled_kind, has_bytes, undefined_kind, region_at, end_of, filled_sum}
 use Rattle.image.specs.Accepted.{Accepted}
 use Rattle.image.proofs.AcceptedImage.{regions-apart}
 use Rattle.machine.specs.Machine.{undefined_byte, defined_byte, addressable_mark, unaddressable_mark}
@@ -135,7 +135,7 @@ module _ (s mem : List ℕ) (a : Accepted s) (size : length mem ≡ field_m s) w
       → Begun s mem (address_in s i k) (get_or (data_of s) (filled_sum (regions_of s) i + k) 0) defined_byte addressable_mark
   unfolding begun_memory begun_v begun_a
   begun-filled i k h kind q =
-      let is-filled : is_filled (region_at (regions_of s) i) ≡ true = eq-eqb (region_at (regions_of s) i).kind filled_kind kind in
+      let is-filled : is_filled (region_at (regions_of s) i) ≡ true = ap has_bytes kind in
       record {
         holds =
             laid-hit (lay_data (regions_of s) (data_of s)) data-keeps (address_in s i k) _ (field_m s) i (field_r s) mem size h
@@ -149,7 +149,7 @@ module _ (s mem : List ℕ) (a : Accepted s) (size : length mem ≡ field_m s) w
       → Begun s mem (address_in s i k) (get_or mem (address_in s i k) 0) undefined_byte addressable_mark
   unfolding begun_memory begun_v begun_a
   begun-undefined i k h kind q =
-      let not-filled : is_filled (region_at (regions_of s) i) ≡ false = ne_eqb (region_at (regions_of s) i).kind filled_kind (λ e. omega (arith, e, kind)) in
+      let not-filled : is_filled (region_at (regions_of s) i) ≡ false = ap has_bytes kind in
       record {
         holds =
             laid-missed (lay_data (regions_of s) (data_of s)) (address_in s i k) (field_r s) mem

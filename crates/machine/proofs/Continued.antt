@@ -9,8 +9,7 @@ use lib.ListN.{set, replicate}
 use Rattle.image.specs.Words.{Bytes}
 use Rattle.image.specs.Format.{field_m, field_n, field_r}
 use Rattle.image.specs.Accepted.{Accepted, Fits}
-use Rattle.image.specs.Refusals.{accepted}
-use Rattle.image.specs.declared.Refusal.{Refusal}
+use Rattle.image.specs.Refusals.{Verdict, accepted}
 use Rattle.image.specs.declared.Instruction.{Instruction}
 use Rattle.image.specs.declared.Instruction.TheVariants.{Stop, Move, Compute, Load, Store, Jump, Emit, Mark}
 use Rattle.machine.specs.Machine.{addressable_mark, unaddressable_mark, Parts, zero_counts, World, Program, program_of}
@@ -121,8 +120,8 @@ answers-continued s b w j k e =
     ∙ ap answered (sym (run-continued program j k w))
     ∙ sym (run-accepted s w (j + k) e)
   where
-    number : {r : Refusal} → r ≡ accepted → r.number ≡ 0
-    number q = ap (λ (r : Refusal). r.number) q
+    number : {r : Verdict} → r ≡ accepted → r.number ≡ 0
+    number q = ap (λ (r : Verdict). r.number) q
 
 -- and so it is with an accepted beginning, if the lists fit
 zero-marks : (n : ℕ) → Marks (replicate n unaddressable_mark)

@@ -4,7 +4,7 @@ use Rattle.std.specs.Prelude.{ℕ, zero, suc, ◌+◌, ◌^◌, ◌<◌, ◌≡�
 use Rattle.rules.specs.Word.{all_ones}
 use Rattle.image.specs.Words.{Bytes}
 use Rattle.image.specs.Format.{registers, frame_register, field_m, field_n, field_r, field_d, region_part, data_part}
-use Rattle.image.specs.Regions.{filled_kind, region_at, filled_sum}
+use Rattle.image.specs.Regions.{has_bytes, region_at, filled_sum}
 use Rattle.image.specs.declared.Region.{Region}
 use Rattle.machine.specs.Machine.{undefined_byte, defined_byte, addressable_mark, unaddressable_mark, Parts, parts}
 use Rattle.machine.specs.Ranges.{written, filled}
@@ -19,7 +19,7 @@ pub record Memory (m : ℕ) (mem : List ℕ) : Type 0 where
   pub bytes : Bytes mem
 
 abbrev pub is_filled : Region → Bool
-is_filled region = eqb region.kind filled_kind
+is_filled region = has_bytes region.kind
 
 -- ---- what region number i does to memory, to V bits and to A bits; its data follows that of the regions before it
 abbrev pub lay_data : (regions held : List ℕ) (i : ℕ) → List ℕ → List ℕ

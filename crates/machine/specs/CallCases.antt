@@ -1,8 +1,7 @@
 -- Cases of whole steps, of a beginning, of the bare machine's trap, and of refusals at their edges, worked out by hand from document 01.
 -- proofs/CallCases.antt says that the definitions give them.
 use Rattle.std.specs.Prelude.{ℕ, List, [], ◌∷◌, ◌++◌, replicate, set}
-use Rattle.image.specs.Refusals.{refused}
-use Rattle.image.specs.declared.Refusal.{Refusal}
+use Rattle.image.specs.Refusals.{Verdict, refused}
 use Rattle.image.specs.declared.Width.TheVariants.{Byte}
 use Rattle.image.specs.declared.Widening.TheVariants.{Zero}
 use Rattle.image.specs.declared.Instruction.{Instruction}
@@ -99,7 +98,7 @@ pub record RefusalCase : Type 0 where
   pub image : List ℕ
   pub at : World
   pub budget : ℕ
-  pub refusal : Refusal
+  pub refusal : Verdict
 
 abbrev refusal_case : List ℕ → World → (budget number : ℕ) → RefusalCase
 refusal_case image w budget number = record { image = image; at = w; budget = budget; refusal = refused number 0 }
@@ -147,5 +146,5 @@ refusal_cases =
     ∷ refusal_case small (sized (counts 2 0 0 0) 8 8 twos 4 4) 0 10
     ∷ []
 
-abbrev pub refusal_given : RefusalCase → Refusal
+abbrev pub refusal_given : RefusalCase → Verdict
 refusal_given c = run_refusal c.image c.at c.budget

@@ -3,8 +3,7 @@
 use Rattle.std.specs.Prelude.{ℕ, ◌+◌, ◌*◌, ◌%◌, Bool, cond, ◌&&◌, List, length, get_or, replicate, eqb, leb}
 use Rattle.image.specs.Tests.{every}
 use Rattle.image.specs.Format.{registers, field_m, field_n}
-use Rattle.image.specs.Refusals.{accepted, unless, or_else, refusal_of}
-use Rattle.image.specs.declared.Refusal.{Refusal}
+use Rattle.image.specs.Refusals.{Verdict, accepted, unless, or_else, refusal_of}
 use Rattle.machine.specs.Machine.{Parts, parts, Counts, zero_counts, World, program_of}
 use Rattle.machine.specs.Beginning.{begun_parts}
 use Rattle.machine.specs.Lists.{report_size, output_size, output_places}
@@ -55,13 +54,13 @@ abbrev pub counts_ok : (n places : ℕ) → Counts → Bool
 counts_ok n places c = leb c.index n && leb c.outputs places && leb c.reports (2 * c.steps)
 
 -- ---- the refusals, the first that applies in number order: after that of reading
-abbrev pub begin_refusal_after : (reading : Refusal) (s mem mem_v mem_a : List ℕ) → Refusal
+abbrev pub begin_refusal_after : (reading : Verdict) (s mem mem_v mem_a : List ℕ) → Verdict
 begin_refusal_after reading s mem mem_v mem_a = or_else reading (unless (buffers_ok (field_m s) mem mem_v mem_a) wrong_size accepted)
 
-unfoldable pub begin_refusal : (s mem mem_v mem_a : List ℕ) → Refusal
+unfoldable pub begin_refusal : (s mem mem_v mem_a : List ℕ) → Verdict
 begin_refusal s mem mem_v mem_a = begin_refusal_after (refusal_of s) s mem mem_v mem_a
 
-abbrev pub run_refusal_after : (reading : Refusal) → List ℕ → World → ℕ → Refusal
+abbrev pub run_refusal_after : (reading : Verdict) → List ℕ → World → ℕ → Verdict
 run_refusal_after reading s w budget =
     or_else reading
     (unless (sizes_ok (field_m s) w) wrong_size
@@ -70,18 +69,18 @@ run_refusal_after reading s w budget =
     (unless (counts_ok (field_n s) (output_places w.output_list) w.counts) wrong_count
     accepted))))
 
-unfoldable pub run_refusal : List ℕ → World → ℕ → Refusal
+unfoldable pub run_refusal : List ℕ → World → ℕ → Verdict
 run_refusal s w budget = run_refusal_after (refusal_of s) s w budget
 
 -- ---- the answers
 -- of a beginning: the refusal, the state and the three buffers
 pub record Began : Type 0 where
-  pub refusal : Refusal
+  pub refusal : Verdict
   pub parts : Parts
   pub counts : Counts
 
 -- refused: a state of all zeros, and the buffers as they were
-abbrev pub begin_answer_with : Refusal → (s regs mem mem_v mem_a : List ℕ) → Began
+abbrev pub begin_answer_with : Verdict → (s regs mem mem_v mem_a : List ℕ) → Began
 begin_answer_with refusal s regs mem mem_v mem_a =
     cond (eqb refusal.number 0)
     (record { refusal = accepted; parts = begun_parts s regs mem; counts = zero_counts })
@@ -96,7 +95,7 @@ begin_answer s regs mem mem_v mem_a = begin_answer_with (begin_refusal s mem mem
 
 -- of a run: the refusal, the stop reason, and the state with buffers and lists
 pub record Ran : Type 0 where
-  pub refusal : Refusal
+  pub refusal : Verdict
   pub reason : ℕ
   pub world : World
 
@@ -104,7 +103,7 @@ abbrev pub answered : Ended World → Ran
 answered x = record { refusal = accepted; reason = x.reason; world = x.state }
 
 -- refused: stop reason 0, and everything as it was
-abbrev pub run_answer_with : Refusal → List ℕ → World → ℕ → Ran
+abbrev pub run_answer_with : Verdict → List ℕ → World → ℕ → Ran
 run_answer_with refusal s w budget =
     cond (eqb refusal.number 0)
     (answered (run_of (program_of s) budget w))

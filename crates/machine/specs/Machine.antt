@@ -1,10 +1,8 @@
 -- The machine (01, The machine): its parts with their shadow, its counts and its lists; and the program that it runs.
 -- Words and bytes are natural numbers, and what is lent to the code is a list of them.
-use Rattle.std.specs.Prelude.{ℕ, ◌-◌, ◌^◌, List}
+use Rattle.std.specs.Prelude.{ℕ, ◌-◌, ◌^◌, List, Result, Ok, Err}
 use Rattle.image.specs.Format.{field_m, field_n, code_part}
 use Rattle.image.specs.Rows.{decode_at}
-use Rattle.image.specs.declared.Decoded.{Decoded}
-use Rattle.image.specs.declared.Decoded.TheVariants.{Valid, Fault}
 use Rattle.image.specs.declared.Instruction.{Instruction}
 use Rattle.image.specs.declared.Instruction.TheVariants.{Stop}
 
@@ -56,9 +54,9 @@ pub record Program : Type 0 where
   pub at : ℕ → Instruction
 
 -- at each index below N of an accepted image there is an instruction; what stands for a fault is never looked at
-abbrev pub instruction_of : Decoded → Instruction
-instruction_of (Valid instruction) = instruction
-instruction_of (Fault i) = Stop
+abbrev pub instruction_of : Result Instruction ℕ → Instruction
+instruction_of (Ok instruction) = instruction
+instruction_of (Err i) = Stop
 
 -- the program of some code, in an image of N instructions and M bytes of memory; and of an image
 abbrev pub program_in : (code : List ℕ) (n m : ℕ) → Program

@@ -41,6 +41,20 @@ joined-lt zero f h = omega arith
 joined-lt (suc n) f h =
     or_lt (8 * suc n) (joined n f) (placed n (f n)) (lt_of_lt_of_le (joined-lt n f (λ k l. h k (omega arith))) (pow_mono (omega arith))) (placed-lt n (f n) (h n (omega arith)))
 
+-- four bytes, by what each is worth
+pub joined-four : (f : ℕ → ℕ) → f 0 < 2 ^ 8 → f 1 < 2 ^ 8 → f 2 < 2 ^ 8 → f 0 + f 1 * 2 ^ 8 + f 2 * 2 ^ 16 + f 3 * 2 ^ 24 ≡ joined 4 f
+unfolding joined
+joined-four f h0 h1 h2 = omega (arith, more 3 (omega arith), more 2 (omega arith), more 1 (omega arith), more 0 (omega arith))
+  where
+    byte : (k : ℕ) → k < 3 → f k < 2 ^ 8
+    byte zero l = h0
+    byte (suc zero) l = h1
+    byte (suc (suc zero)) l = h2
+    byte (suc (suc (suc k))) l = absurd (omega arith)
+
+    more : (n : ℕ) → n < 4 → joined (suc n) f ≡ f n * 2 ^ (8 * n) + joined n f
+    more n l = joined-suc n f (joined-lt n f (λ k m. byte k (omega arith)))
+
 -- ---- SWiden
 ones-word : (n : ℕ) → n ≤ 4 → 2 ^ (8 * n) - 1 < 2 ^ 32
 ones-word n few = lt_of_lt_of_le (ones_lt (8 * n)) (pow_mono {j = 32} (omega arith))

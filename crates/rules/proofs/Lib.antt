@@ -1,4 +1,3 @@
-pub mod Product
 pub mod Bits
 pub mod Congruence
 pub mod Agreement

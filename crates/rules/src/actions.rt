@@ -14,29 +14,19 @@ pub fn mov(y: Data) -> Data
 pub fn add(x: Data, y: Data) -> Data
     ensures { result.0 ≡ add_of x.0 y.0 }
 {
-    Data(std::num::wrapping_add_u32(x.0, y.0))
+    Data(x.0.wrapping_add(y.0))
 }
 
 pub fn sub(x: Data, y: Data) -> Data
     ensures { result.0 ≡ sub_of x.0 y.0 }
 {
-    Data(std::num::wrapping_sub_u32(x.0, y.0))
-}
-
-// As many words as there are: arithmetic is modulo this.
-const WORDS: u64 = 0x1_0000_0000;
-
-// The product, wrapped.
-fn wrapping_mul(x: u32, y: u32) -> u32
-    ensures { result ≡ mul_of x y }
-{
-    ((x as u64 * y as u64) % WORDS) as u32
+    Data(x.0.wrapping_sub(y.0))
 }
 
 pub fn mul(x: Data, y: Data) -> Data
     ensures { result.0 ≡ mul_of x.0 y.0 }
 {
-    Data(wrapping_mul(x.0, y.0))
+    Data(x.0.wrapping_mul(y.0))
 }
 
 pub fn and(x: Data, y: Data) -> Data
@@ -57,16 +47,17 @@ pub fn xor(x: Data, y: Data) -> Data
     Data(x.0 ^ y.0)
 }
 
+// A shift's amount is the second operand modulo the bits of a word.
 pub fn shl(x: Data, y: Data) -> Data
     ensures { result.0 ≡ shl_of x.0 y.0 }
 {
-    Data(words::shift_left(x.0, y.0))
+    Data(x.0.wrapping_shl(y.0))
 }
 
 pub fn shr(x: Data, y: Data) -> Data
     ensures { result.0 ≡ shr_of x.0 y.0 }
 {
-    Data(words::shift_right(x.0, y.0))
+    Data(x.0.wrapping_shr(y.0))
 }
 
 pub fn sar(x: Data, y: Data) -> Data
@@ -78,11 +69,11 @@ pub fn sar(x: Data, y: Data) -> Data
 pub fn eq(x: Data, y: Data) -> Data
     ensures { result.0 ≡ eq_of x.0 y.0 }
 {
-    Data(words::select(x.0 == y.0, 1, 0))
+    Data(if x == y { 1 } else { 0 })
 }
 
 pub fn ltu(x: Data, y: Data) -> Data
     ensures { result.0 ≡ ltu_of x.0 y.0 }
 {
-    Data(words::select(x.0 < y.0, 1, 0))
+    Data(if x.0 < y.0 { 1 } else { 0 })
 }

@@ -1,5 +1,5 @@
 // The bytes of a word, and the word of some bytes, the lowest first: for data and V bits alike.
-ghost use Rattle.std.specs.Prelude.{◌≡◌, ◌-◌, ◌*◌, ◌<◌, [], ◌∷◌};
+ghost use Rattle.std.specs.Prelude.{◌≡◌, ◌<◌, [], ◌∷◌};
 ghost use Rattle.rules.specs.Shadows.{zwiden, above, swiden};
 ghost use Rattle.rules.specs.Bytes.{byte_of, join_of};
 
@@ -9,18 +9,7 @@ use super::words;
 pub fn zwiden(b: u8) -> u32
     ensures { result ≡ zwiden b }
 {
-    b as u32
-}
-
-// The place of the top bit of so many bytes; of none, 0.
-fn top_of(size: u32) -> u32
-    requires { size < 4 }
-    ensures { result ≡ 8 * size - 1 }
-{
-    if size == 0 {
-        return 0;
-    }
-    8 * size - 1
+    u32::from(b)
 }
 
 // The places of a word above so many bytes.
@@ -38,10 +27,11 @@ pub fn swiden(size: u32, x: u32) -> u32
     if 4 <= size {
         return x;
     }
-    x | words::copies_of(top_of(size), places_above(size), x)
+    let top = (8 * size).saturating_sub(1);
+    x | words::copies_of(top, places_above(size), x)
 }
 
-// Byte k of a word; 0 past its four.
+// Byte k of a word; 0 past its four. By a shift: to take it out of `to_le_bytes` needs the same test.
 pub fn byte(x: u32, k: u32) -> u8
     ensures { result ≡ byte_of k x }
 {
@@ -55,5 +45,5 @@ pub fn byte(x: u32, k: u32) -> u8
 pub fn join4(b0: u8, b1: u8, b2: u8, b3: u8) -> u32
     ensures { result ≡ join_of (b0 ∷ b1 ∷ b2 ∷ b3 ∷ []) }
 {
-    zwiden(b0) | zwiden(b1) << 8 | zwiden(b2) << 16 | zwiden(b3) << 24
+    u32::from_le_bytes([b0, b1, b2, b3])
 }

@@ -6,7 +6,6 @@ use std::io;
 
 mod images; // images.rt: images, and what the reader answers
 mod rows; // rows.rt: instructions, and what they decode to
-mod show; // show.rt: text, words and numbers
 mod words; // words.rt: operations on words
 
 fn main(rt: HostRuntime) -> io::Result<()> {

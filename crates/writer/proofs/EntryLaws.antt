@@ -6,16 +6,25 @@ use mathlib.Core.List.{List, [], ◌∷◌}
 use native.Mathlib.Omega.{arith}
 use lib.ListN.{length, get_or, replicate}
 use lib.Seq.{sets}
-use borrow.Author.Tests.{lt-ltb}
+use borrow.Author.Tests.{lt-ltb, le-ltb}
 use Rattle.rules.specs.Bytes.{byte_of}
 use Rattle.image.specs.Rows.{row_of, fields_ok, built, decoded, Fields, fields_at, decoded_from, decode_at}
-use Rattle.image.specs.Regions.{region_at, end_before, region_keeps, region_ok}
-use Rattle.image.specs.Refusals.{is_valid, instruction_ok}
-use Rattle.image.specs.declared.Decoded.TheVariants.{Valid, Fault}
+use Rattle.image.specs.Regions.{kind_of, region_at}
+use Rattle.std.specs.Prelude.{Result, Ok, Err}
 use Rattle.image.specs.declared.Instruction.{Instruction}
-use Rattle.image.specs.declared.Region.{Region}
-use Rattle.writer.specs.Words.{word_bytes, bytes_of, Words, instruction_words, region_words, fields_in}
+use Rattle.writer.specs.Words.{bytes_of, Words, instruction_words, fields_in}
+use Rattle.writer.specs.Writing.{instruction_count, region_count}
 use Rattle.writer.proofs.WordLaws.{length-bytes, byte_at, word_at}
+
+-- an answer, with the fault at this place
+unfoldable pub at_place : ℕ → Result Instruction ℕ → Result Instruction ℕ
+at_place i (Ok instruction) = Ok instruction
+at_place i (Err k) = Err i
+
+placed-again : (i k : ℕ) (answer : Result Instruction ℕ) → at_place i (at_place k answer) ≡ at_place i answer
+unfolding at_place
+placed-again i k (Ok instruction) = refl
+placed-again i k (Err j) = refl
 
 module _ (ws : List ℕ) (b : Words ws) (i : ℕ) where
   -- ---- an instruction
@@ -28,21 +37,21 @@ module _ (ws : List ℕ) (b : Words ws) (i : ℕ) where
     pub fields-by-words : fields_at (bytes_of ws) i ≡ fields_in ws i
     fields-by-words = rw (first 0 (omega arith), first 1 (omega arith), first 2 (omega arith), first 3 (omega arith), word_at ws (2 * i + 1) (omega arith) (b (2 * i + 1)))
 
-    row-by-words : (n m : ℕ) → let f = fields_in ws i in instruction_ok (bytes_of ws) n m i ≡ fields_ok (row_of f.op) f.d f.a f.b f.imm n m
-    unfolding instruction_ok decode_at decoded
+    row-by-words : (n m : ℕ) → decode_at (bytes_of ws) i n m ≡ at_place i (decoded_from (fields_in ws i) 0 n m)
+    unfolding decode_at decoded at_place
     row-by-words n m =
         let f = fields_in ws i in
         let e : decode_at (bytes_of ws) i n m ≡ decoded_from f i n m =
         rw (lt-ltb i (length (bytes_of ws) / 8) (omega (arith, length-bytes ws))) (ap (λ (g : Fields). decoded_from g i n m) fields-by-words) in
-        ap is_valid e ∙ valid-if (fields_ok (row_of f.op) f.d f.a f.b f.imm n m) (built (row_of f.op) f.d f.a f.b f.imm)
+        e ∙ whichever (fields_ok (row_of f.op) f.d f.a f.b f.imm n m) (built (row_of f.op) f.d f.a f.b f.imm)
       where
-        valid-if : (t : Bool) (v : Instruction) → is_valid (cond t (Valid v) (Fault i)) ≡ t
-        valid-if true v = refl
-        valid-if false v = refl
+        whichever : (t : Bool) (v : Instruction) → cond t (Ok v) (Err i) ≡ at_place i (cond t (Ok v) (Err 0))
+        whichever true v = refl
+        whichever false v = refl
 
   -- ---- a region
-  pub region-by-words : region_words * i + region_words ≤ length ws
-      → region_at (bytes_of ws) i ≡ record { start = get_or ws (3 * i) 0; size = get_or ws (3 * i + 1) 0; kind = get_or ws (3 * i + 2) 0 }
+  pub region-by-words : i < region_count ws
+      → region_at (bytes_of ws) i ≡ record { start = get_or ws (3 * i) 0; size = get_or ws (3 * i + 1) 0; kind = kind_of (get_or ws (3 * i + 2) 0) }
   unfolding region_at
   region-by-words inside =
       rw (lt-ltb i (length (bytes_of ws) / 12) (omega (arith, length-bytes ws)), word_at ws (3 * i) (omega arith) (b (3 * i)), word_at ws (3 * i + 1) (omega arith) (b (3 * i + 1)), word_at ws (3 * i + 2) (omega arith) (b (3 * i + 2)))
@@ -53,20 +62,25 @@ two-words x y hx hy zero = hx
 two-words x y hx hy (suc zero) = hy
 two-words x y hx hy (suc (suc k)) = omega arith
 
-pub row-alone : (ws : List ℕ) → Words ws → (i : ℕ) → instruction_words * i + instruction_words ≤ length ws → (n m : ℕ) (half row : List ℕ)
-    → half ≡ sets (replicate 8 0) 0 (word_bytes (get_or ws (2 * i) 0)) → row ≡ sets half 4 (word_bytes (get_or ws (2 * i + 1) 0))
-    → instruction_ok (bytes_of ws) n m i ≡ is_valid (decode_at row 0 n m)
-unfolding bytes_of instruction_ok
-row-alone ws b i inside n m half row e₁ e₂ =
+pub row-alone : (ws : List ℕ) → Words ws → (i : ℕ) → i < instruction_count ws → (n m : ℕ) (row : List ℕ)
+    → row ≡ sets (replicate 8 0) 0 (bytes_of (get_or ws (2 * i) 0 ∷ get_or ws (2 * i + 1) 0 ∷ []))
+    → decode_at (bytes_of ws) i n m ≡ at_place i (decode_at row 0 n m)
+unfolding bytes_of
+row-alone ws b i inside n m row e =
     let x = get_or ws (2 * i) 0 in
     let y = get_or ws (2 * i + 1) 0 in
-    let alone : row ≡ bytes_of (x ∷ y ∷ []) = e₂ ∙ ap (λ (h : List ℕ). sets h 4 (word_bytes y)) e₁ in
-    row-by-words ws b i inside n m
-    ∙ sym (ap (λ (t : List ℕ). is_valid (decode_at t 0 n m)) alone ∙ row-by-words (x ∷ y ∷ []) (two-words x y (b (2 * i)) (b (2 * i + 1))) 0 (omega arith) n m)
+    let alone : row ≡ bytes_of (x ∷ y ∷ []) = e in
+    row-by-words ws b i (omega arith) n m
+    ∙ sym
+    (ap (λ (t : List ℕ). at_place i (decode_at t 0 n m)) alone
+    ∙ ap (at_place i) (row-by-words (x ∷ y ∷ []) (two-words x y (b (2 * i)) (b (2 * i + 1))) 0 (omega arith) n m)
+    ∙ placed-again i 0 (decoded_from (fields_in ws i) 0 n m))
 
--- the rules for region number i, of the region and the end before it that a loop has in hand
-pub region-kept : (rs : List ℕ) (m i : ℕ) (region : Region) (before : ℕ) (t : Bool) → region ≡ region_at rs i → before ≡ end_before rs i → t ≡ region_keeps region before m
-    → region_ok rs m i ≡ t
-unfolding region_ok
-region-kept rs m i region before t e f h =
-    sym (h ∙ ap (λ (x : Region). region_keeps x before m) e ∙ ap (λ (b : ℕ). region_keeps (region_at rs i) b m) f)
+-- ---- past the last
+pub no-row : (ws : List ℕ) (i : ℕ) → instruction_count ws ≤ i → (n m : ℕ) → Err i ≡ decode_at (bytes_of ws) i n m
+unfolding decode_at
+no-row ws i past n m = rw (le-ltb i (length (bytes_of ws) / 8) (omega (arith, length-bytes ws))) refl
+
+pub no-region : (ws : List ℕ) (i : ℕ) → region_count ws ≤ i → record { start = 0; size = 0; kind = kind_of 0 } ≡ region_at (bytes_of ws) i
+unfolding region_at
+no-region ws i past = rw (le-ltb i (length (bytes_of ws) / 12) (omega (arith, length-bytes ws))) refl

@@ -1,22 +1,25 @@
 -- What the writer's refusals say of the lists, and what it answers.
-use Prim.Native.Nat.{ℕ, ◌+◌, ◌%◌, ◌≤◌}
-use mathlib.Core.Path.{◌≡◌, refl, sym, ◌∙◌}
+use Prim.Native.Nat.{ℕ, ◌%◌, ◌≤◌}
+use mathlib.Core.Path.{◌≡◌, refl, sym, ap}
 use mathlib.Core.Bool.{Bool, true, false, cond}
 use mathlib.Core.List.{List}
 use native.Mathlib.Omega.{arith}
 use lib.ListN.{length}
-use lib.Dec.{lit<, leb, eqb}
+use lib.Dec.{lit<, eqb}
 use lib.Seq.{sets}
 use borrow.Author.Tests.{leb-true, eqb-true, eq-eqb, ne_eqb}
-use Rattle.image.specs.Format.{data_at, size_of, limits_ok}
-use Rattle.image.specs.Regions.{filled_sum}
-use Rattle.image.specs.Refusals.{refused, accepted, unless, or_else, out_of_limits, wrong_sum, code_refusal, region_refusal}
-use Rattle.image.specs.declared.Refusal.{Refusal}
+use Rattle.std.specs.Prelude.{Result, Err}
+use Rattle.image.specs.Format.{size_of, limits_ok}
+use Rattle.image.specs.Refusals.{Verdict, accepted, unless, or_else, out_of_limits}
+use Rattle.image.specs.declared.refusals.Refusal.TheVariants.{TooShort, WrongMagic, OutOfLimits, WrongLayout, BadInstruction, BadRegion, WrongSum}
 use Rattle.image.proofs.Tests.{all_three}
 use Rattle.image.proofs.Faults.{passed, both-passed}
 use Rattle.image.proofs.AcceptedImage.{limits-hold}
-use Rattle.writer.specs.Words.{bytes_of, instruction_words, region_words}
+use Rattle.writer.specs.Words.{instruction_words, region_words}
 use Rattle.writer.specs.Writing.{no_room, instruction_count, region_count, image_of, whole_entries, counts_ok, entries_refusal, room_ok, write_refusal, written, not_written, write_answer}
+use Rattle.writer.specs.Refusals.{number_of, verdict, written_of}
+use Rattle.writer.specs.declared.refusals.Refusal.{Refusal}
+use Rattle.writer.specs.declared.refusals.Refusal.TheVariants.{Image, NoRoom}
 use Rattle.writer.specs.Pieces.{Counted}
 use Rattle.writer.proofs.ImageLaws.{image-length, put_front}
 
@@ -29,21 +32,6 @@ module _ (m : ℕ) (instructions regions : List ℕ) (d : ℕ) where
       let code : length instructions % 2 ≡ 0 = eqb-true _ _ e.0 in
       let places : length regions % 3 ≡ 0 = eqb-true _ _ e.1 in
       record { whole_code = omega arith; whole_regions = omega arith; limits = limits-hold _ _ _ _ e.2 }
-
-  -- ---- the tests in their order
-  pub counts-fail : (room : ℕ) → counts_ok m instructions regions d ≡ false → write_refusal m instructions regions d room ≡ refused out_of_limits 0
-  unfolding write_refusal
-  counts-fail room h = rw h
-
-  -- of counts that pass, n and r, of what the tests of the entries found, the filled sum and where the data begins
-  pub write-tests : (room : ℕ) {n r : ℕ} {in_code in-regions : Refusal} {total at : ℕ} → counts_ok m instructions regions d ≡ true
-      → n ≡ instruction_count instructions → r ≡ region_count regions
-      → in_code ≡ code_refusal (bytes_of instructions) n m → in-regions ≡ region_refusal (bytes_of regions) r m
-      → total ≡ filled_sum (bytes_of regions) r → at ≡ data_at n r
-      → write_refusal m instructions regions d room
-      ≡ or_else (or_else in_code (or_else in-regions (unless (eqb total d) wrong_sum accepted))) (unless (leb (at + d) room) no_room accepted)
-  unfolding write_refusal entries_refusal
-  write-tests room h en er e5 e6 e7 e12 = rw (h, ← en, ← er, ← e5, ← e6, ← e7, ← e12)
 
   -- nothing refused
   pub record Allowed (room : ℕ) : Type 0 where
@@ -62,17 +50,28 @@ module _ (m : ℕ) (instructions regions : List ℕ) (d : ℕ) where
       record { counted = counts-hold p1.0; entries = p2.0; fits = leb-true _ _ p3.0; none = simp (p1.0, eq-eqb _ _ p2.0, p3.0) }
 
 -- ---- the answer
+-- no refusal has number 0
+some_number : (e : Refusal) → number_of e ≡ 0 → ⊥
+some_number (Image TooShort) h = omega arith
+some_number (Image WrongMagic) h = omega arith
+some_number (Image OutOfLimits) h = omega arith
+some_number (Image WrongLayout) h = omega arith
+some_number (Image (BadInstruction i)) h = omega arith
+some_number (Image (BadRegion i)) h = omega arith
+some_number (Image WrongSum) h = omega arith
+some_number NoRoom h = omega arith
+
 module _ (m : ℕ) (instructions regions held out : List ℕ) where
   abbrev made : List ℕ
   made = image_of m instructions regions held
 
-  abbrev refusal : Refusal
+  abbrev refusal : Verdict
   refusal = write_refusal m instructions regions (length held) (length out)
 
   -- of a refused call
-  pub answer-refused : (found : Refusal) → found ≡ refusal → (found.number ≡ 0 → ⊥) → not_written found out ≡ write_answer m instructions regions held out
+  pub answer-refused : (e : Refusal) (r : Result ℕ Refusal) → verdict e ≡ refusal → r ≡ Err e → written_of r out ≡ write_answer m instructions regions held out
   unfolding write_answer
-  answer-refused found e h = sym (rw (← e, ne_eqb _ _ h))
+  answer-refused e r h h' = rw (h', ← h, ne_eqb _ _ (some_number e))
 
   pub answer-accepted : refusal.number ≡ 0 → write_answer m instructions regions held out ≡ written made out
   unfolding write_answer
@@ -88,11 +87,10 @@ module _ (m : ℕ) (instructions regions held out : List ℕ) where
       go false e z = z
 
   -- of one that put the image there
-  pub answer-written : (found : Refusal) (size : ℕ) (out' : List ℕ) → found ≡ refusal → found.number ≡ 0 → size ≡ length made → out' ≡ sets out 0 made
-      → record { refusal = found; size = size; out = out' } ≡ write_answer m instructions regions held out
-  answer-written found size out' e h l p =
-      let z : refusal.number ≡ 0 = rw e at h in
+  pub answer-written : (size : ℕ) (out' : List ℕ) → accepted ≡ refusal → size ≡ length made → out' ≡ sets out 0 made
+      → record { refusal = accepted; size = size; out = out' } ≡ write_answer m instructions regions held out
+  answer-written size out' e l p =
+      let z : refusal.number ≡ 0 = sym (ap (λ (v : Verdict). v.number) e) in
       let a = may_write m instructions regions (length held) (length out) z in
-      let none : found ≡ accepted = e ∙ a.none in
       let fits : length made ≤ length out = omega (arith, image-length m instructions regions held a.counted, a.fits) in
-      rw (none, l, p, put_front out made fits) (sym (answer-accepted z))
+      rw (l, p, put_front out made fits) (sym (answer-accepted z))

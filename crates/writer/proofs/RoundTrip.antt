@@ -11,10 +11,8 @@ use borrow.Author.Tests.{le-leb, eq-eqb}
 use Rattle.image.specs.Words.{Bytes}
 use Rattle.image.specs.Format.{magic, header_size, regions_at, data_at, size_of, field_m, field_n, field_r, field_d, limits_ok, code_part, region_part, data_part}
 use Rattle.image.specs.Rows.{fields_at}
-use Rattle.image.specs.Refusals.{accepted, unless, or_else, refusal_of, header_of, code_of}
+use Rattle.image.specs.Refusals.{Reading, Verdict, accepted, unless, or_else, refusal_of, header_of, code_of}
 use Rattle.image.specs.Accepted.{Accepted}
-use Rattle.image.specs.declared.Header.{Header}
-use Rattle.image.specs.declared.Refusal.{Refusal}
 use Rattle.image.proofs.Parts.{bytes_drop, bytes-part}
 use Rattle.image.proofs.AcceptedImage.{accepted-image, accepted-header, accepted-code, header-refusal, limits-pass, code-length, region-length, data-length}
 use Rattle.writer.specs.Words.{bytes_of, first_words, words_of, Words, instruction_words, region_words}
@@ -54,14 +52,14 @@ module _ (m : ℕ) (instructions regions held out : List ℕ) (bi : Words instru
       let a = may_write m instructions regions (length held) (length out) z in
       let e : refusal_of made ≡ entries_refusal m instructions regions (length held) = refused-entries m instructions regions held a.counted (limits-pass a.counted.limits) in
       let answer = answer-accepted m instructions regions held out z in
-      rw (answer, take-append_seam made (drop (length made) out)) (hands-back a.counted (ap (λ (f : Refusal). f.number) e ∙ a.entries))
+      rw (answer, take-append_seam made (drop (length made) out)) (hands-back a.counted (ap (λ (f : Verdict). f.number) e ∙ a.entries))
 
 -- ---- the writer refuses as the reader does
 module _ (m : ℕ) (instructions regions held : List ℕ) (room : ℕ) where
   abbrev d : ℕ
   d = length held
 
-  abbrev last : Refusal
+  abbrev last : Verdict
   last = unless (room_ok instructions regions d room) no_room accepted
 
   abbrev Alike : Type 0
@@ -148,25 +146,25 @@ module _ (s : List ℕ) (b : Bytes s) (a : Accepted s) where
 -- ---- and written again
 module _ (s : List ℕ) (b : Bytes s) (m : ℕ) (instructions regions held : List ℕ) (p : HandsBack s m instructions regions held) where
   none-refused : refusal_of s ≡ accepted
-  none-refused = sym (header-refusal s) ∙ ap (λ (h : Header). h.refusal) p.header
+  none-refused = sym (header-refusal s) ∙ ap (λ (h : Reading). h.refusal) p.header
 
   known : Accepted s
-  known = accepted-image s (ap (λ (f : Refusal). f.number) none-refused)
+  known = accepted-image s (ap (λ (f : Verdict). f.number) none-refused)
 
   same-header : header_of s ≡ record { m = field_m s; n = field_n s; r = field_r s; d = field_d s; refusal = accepted }
   same-header = accepted-header s known
 
   same-m : m ≡ field_m s
-  same-m = ap (λ (h : Header). h.m) (sym p.header ∙ same-header)
+  same-m = ap (λ (h : Reading). h.m) (sym p.header ∙ same-header)
 
   same_code : instructions ≡ words_of (code_part s (field_n s))
   same_code = sym p.code_words ∙ ap words_of (accepted-code s known)
 
   same-regions : regions ≡ words_of (region_part s (field_n s) (field_r s))
-  same-regions = sym p.region_words ∙ ap (λ (h : Header). words_of (region_part s h.n h.r)) same-header
+  same-regions = sym p.region_words ∙ ap (λ (h : Reading). words_of (region_part s h.n h.r)) same-header
 
   same-data : held ≡ data_part s (field_n s) (field_r s) (field_d s)
-  same-data = sym p.data_bytes ∙ ap (λ (h : Header). data_part s h.n h.r h.d) same-header
+  same-data = sym p.data_bytes ∙ ap (λ (h : Reading). data_part s h.n h.r h.d) same-header
 
   handed-image : image_of m instructions regions held ≡ s
   handed-image = rw (same-m, same_code, same-regions, same-data) (image-again s b known)
@@ -183,14 +181,14 @@ module _ (s : List ℕ) (b : Bytes s) (m : ℕ) (instructions regions held : Lis
       let none : write_refusal m instructions regions (length held) (length out) ≡ accepted =
       alike m instructions regions held (length out) whole (omega (arith, same-m, l.memory)) (omega (arith, l.code)) (omega (arith, l.regions)) (omega (arith, l.held))
       ∙ rw (handed-image, none-refused, room) in
-      answer-accepted m instructions regions held out (ap (λ (f : Refusal). f.number) none) ∙ ap (λ (t : List ℕ). written t out) handed-image
+      answer-accepted m instructions regions held out (ap (λ (f : Verdict). f.number) none) ∙ ap (λ (t : List ℕ). written t out) handed-image
 
 -- what is handed back of an image
 same-fields : (s : List ℕ) (m m' : ℕ) (instructions instructions' regions regions' held held' : List ℕ)
     → HandsBack s m instructions regions held → HandsBack s m' instructions' regions' held'
     → (m ≡ m') × (instructions ≡ instructions') × (regions ≡ regions') × (held ≡ held')
 same-fields s m m' instructions instructions' regions regions' held held' p q =
-    (ap (λ (h : Header). h.m) (sym p.header ∙ q.header), sym p.code_words ∙ q.code_words, sym p.region_words ∙ q.region_words, sym p.data_bytes ∙ q.data_bytes)
+    (ap (λ (h : Reading). h.m) (sym p.header ∙ q.header), sym p.code_words ∙ q.code_words, sym p.region_words ∙ q.region_words, sym p.data_bytes ∙ q.data_bytes)
 
 pub round_trip : RoundTrip
 round_trip =

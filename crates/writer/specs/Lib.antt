@@ -1,5 +1,6 @@
 pub mod Words
 pub mod Writing
+pub mod Refusals
 pub mod Promises
 pub mod RoundTrip
 pub mod Cases

@@ -1,8 +1,7 @@
 -- What the writer refuses, and what it writes (02, L2), for every input.
 use Rattle.std.specs.Prelude.{ℕ, ◌/◌, ◌%◌, Bool, cond, ◌&&◌, List, [], ◌∷◌, ◌++◌, length, drop, leb, eqb}
 use Rattle.image.specs.Format.{magic, header_size, regions_at, data_at, size_of, limits_ok}
-use Rattle.image.specs.Refusals.{accepted, unless, or_else, out_of_limits, content_refusal}
-use Rattle.image.specs.declared.Refusal.{Refusal}
+use Rattle.image.specs.Refusals.{Verdict, accepted, unless, or_else, out_of_limits, content_refusal}
 use Rattle.writer.specs.Words.{bytes_of, instruction_words, region_words}
 
 -- the number of the refusal that is the writer's own: the buffer is shorter than the image
@@ -37,7 +36,7 @@ counts_ok m instructions regions d =
     whole_entries instruction_words instructions && whole_entries region_words regions && limits_ok m (instruction_count instructions) (region_count regions) d
 
 -- 5, 6 and 7, as the reader finds them in the bytes
-unfoldable pub entries_refusal : ℕ → (instructions regions : List ℕ) (d : ℕ) → Refusal
+unfoldable pub entries_refusal : ℕ → (instructions regions : List ℕ) (d : ℕ) → Verdict
 entries_refusal m instructions regions d =
     content_refusal (bytes_of instructions) (bytes_of regions) m (instruction_count instructions) (region_count regions) d
 
@@ -46,7 +45,7 @@ abbrev pub room_ok : (instructions regions : List ℕ) (d room : ℕ) → Bool
 room_ok instructions regions d room = leb (size_of (instruction_count instructions) (region_count regions) d) room
 
 -- the first that applies, in number order; of the data and of the buffer how many bytes they have is enough
-unfoldable pub write_refusal : ℕ → (instructions regions : List ℕ) (d room : ℕ) → Refusal
+unfoldable pub write_refusal : ℕ → (instructions regions : List ℕ) (d room : ℕ) → Verdict
 write_refusal m instructions regions d room =
     unless (counts_ok m instructions regions d) out_of_limits
     (or_else (entries_refusal m instructions regions d)
@@ -56,7 +55,7 @@ write_refusal m instructions regions d room =
 -- ---- the answer
 -- the refusal, how many bytes the image has, and the buffer
 pub record Written : Type 0 where
-  pub refusal : Refusal
+  pub refusal : Verdict
   pub size : ℕ
   pub out : List ℕ
 
@@ -65,7 +64,7 @@ abbrev pub written : (image out : List ℕ) → Written
 written image out = record { refusal = accepted; size = length image; out = image ++ drop (length image) out }
 
 -- refused: size 0, and the buffer as it was
-abbrev pub not_written : Refusal → List ℕ → Written
+abbrev pub not_written : Verdict → List ℕ → Written
 not_written refusal out = record { refusal = refusal; size = 0; out = out }
 
 unfoldable pub write_answer : ℕ → (instructions regions held out : List ℕ) → Written

@@ -8,14 +8,15 @@ ghost use Rattle.writer.specs.Writing.{instruction_count, region_count, header_w
 ghost use Rattle.writer.specs.Pieces.{Counted};
 
 use super::bytes::WORD;
-use super::{bytes, checks};
-use image::format;
+use super::{bytes, entries};
+use image::{Header, format};
 
 // The first four bytes, and the seven words after them.
-fn put_header(m: u32, n: u32, r: u32, d: u32, out: &mut [u8])
-    requires { Limits m n r d × (header_size ≤ length out.old) }
-    ensures { out.new ≡ sets out.old 0 (magic ++ bytes_of (header_words m n r d)) }
+fn put_header(header: Header, out: &mut [u8])
+    requires { Limits header.m header.n header.r header.d × (header_size ≤ length out.old) }
+    ensures { out.new ≡ sets out.old 0 (magic ++ bytes_of (header_words header.m header.n header.r header.d)) }
 {
+    let Header { m, n, r, d } = header;
     let regions_at = format::regions_at(n) as u32;
     let data_at = format::data_at(n, r) as u32;
     let words = [m, n, format::HEADER as u32, r, regions_at, d, data_at];
@@ -23,7 +24,8 @@ fn put_header(m: u32, n: u32, r: u32, d: u32, out: &mut [u8])
     bytes::put_words(out, WORD * format::WORD_M, &words);
 }
 
-// The image, to the front of the buffer; how many bytes it has.
+// The image, to the front of the buffer; how many bytes it has. M, instructions and regions come one by
+// one, as C hands them in.
 pub fn put_image(
     m: u32,
     instructions: &[u32],
@@ -35,11 +37,17 @@ pub fn put_image(
     ensures value { result ≡ length (image_of m instructions.now regions.now «data».now) }
     ensures out_after { out.new ≡ sets out.old 0 (image_of m instructions.now regions.now «data».now) }
 {
-    let n = checks::instruction_count(instructions) as u32;
-    let r = checks::region_count(regions) as u32;
+    let n = entries::instruction_count(instructions) as u32;
+    let r = entries::region_count(regions) as u32;
     let regions_at = format::regions_at(n);
     let data_at = format::data_at(n, r);
-    put_header(m, n, r, data.len() as u32, out);
+    let header = Header {
+        m,
+        n,
+        r,
+        d: data.len() as u32,
+    };
+    put_header(header, out);
     bytes::put_words(out, format::HEADER, instructions);
     bytes::put_words(out, regions_at, regions);
     bytes::put_bytes(out, data_at, data);

@@ -6,37 +6,26 @@
 
 ghost use Rattle.writer.specs.Promises.{WritePromise};
 
-use image::Refusal;
-use image::refusals::ACCEPTED;
-
-pub mod refusals; // refusals.rt: the number of the writer's own refusal
 mod bytes; // bytes.rt: words and bytes, put into a buffer
 mod checks; // checks.rt: the refusals of writing
+mod entries; // entries.rt: instructions and regions as they are handed in
 mod layout; // layout.rt: the image, put into a buffer
+mod refusals; // refusals.rt: the refusals, with their numbers and indices
 
-// A refusal, zeros where there is none, and how many bytes the image has, 0 when refused.
-#[derive(Clone, Copy)]
-pub struct Wrote {
-    pub refusal: Refusal,
-    pub size: usize,
-}
+pub use refusals::Refusal;
 
 // Writes the image of m bytes of memory, instructions of two words each, regions of three words each
-// and the data of the filled ones to the front of a buffer. Bytes past the image stay; a refusal
-// touches nothing.
-pub fn write(m: u32, instructions: &[u32], regions: &[u32], data: &[u8], out: &mut [u8]) -> Wrote
+// and the data of the filled ones to the front of a buffer, and answers how many bytes it has. Bytes
+// past the image stay; a refusal touches nothing.
+pub fn write(
+    m: u32,
+    instructions: &[u32],
+    regions: &[u32],
+    data: &[u8],
+    out: &mut [u8],
+) -> Result<usize, Refusal>
     ensures { WritePromise m instructions.now regions.now «data».now out.old result out.new }
 {
-    let found = checks::check(m, instructions, regions, data.len(), out.len());
-    if found.number != ACCEPTED {
-        return Wrote {
-            refusal: found,
-            size: 0,
-        };
-    }
-    let size = layout::put_image(m, instructions, regions, data, out);
-    Wrote {
-        refusal: found,
-        size: size,
-    }
+    checks::check(m, instructions, regions, data.len(), out.len())?;
+    Ok(layout::put_image(m, instructions, regions, data, out))
 }

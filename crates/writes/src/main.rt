@@ -5,7 +5,6 @@
 use std::io;
 
 mod cases; // cases.rt: what is written
-mod show; // show.rt: text, numbers and bytes
 
 fn main(rt: HostRuntime) -> io::Result<()> {
     let mut stdout = rt.stdout();

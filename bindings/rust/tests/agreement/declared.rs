@@ -35,6 +35,30 @@ pub fn constants(text: &str) -> Numbers {
     items.filter_map(constant).collect()
 }
 
+/// The numbers of an enum's variants in a file of Rattle, by the variants' names in capitals: what
+/// `Variant = 1,` or `Enum::Variant(_) => 1,` says.
+pub fn variants(text: &str) -> Numbers {
+    let variant = |line: &str| {
+        let (left, right) = line.split_once(" => ").or_else(|| line.split_once(" = "))?;
+        let number = right.trim_end_matches(',').parse().ok()?;
+        let name = left.rsplit("::").next()?.split('(').next()?;
+        name.chars().all(char::is_alphanumeric).then(|| (in_capitals(name), number))
+    };
+    text.lines().filter_map(|line| variant(line.trim())).collect()
+}
+
+/// `NoBudget` as `NO_BUDGET`.
+fn in_capitals(name: &str) -> String {
+    let mut capitals = String::new();
+    for (place, letter) in name.char_indices() {
+        if place > 0 && letter.is_uppercase() {
+            capitals.push('_');
+        }
+        capitals.extend(letter.to_uppercase());
+    }
+    capitals
+}
+
 /// `START name(parameter: type, ..) -> answer`, and what stands before it since the last `;`.
 struct Signature<'a> {
     before: &'a str,

@@ -29,6 +29,10 @@ fn constants_of(file: &str) -> Numbers {
     declared::constants(&crate_text(file))
 }
 
+fn variants_of(file: &str) -> Numbers {
+    declared::variants(&crate_text(file))
+}
+
 #[test]
 fn every_number_of_the_header_is_the_bindings() {
     let named = |&(name, number): &(&str, u64)| (name.to_string(), number);
@@ -90,24 +94,26 @@ fn the_places_in_a_state_are_those_of_capi() {
 #[test]
 fn refusals_stop_reasons_and_kinds_are_those_of_the_crates() {
     let header = header();
-    let mut refusals = constants_of("image/src/refusals.rt");
-    refusals.extend(constants_of("checker/src/refusals.rt"));
-    refusals.extend(constants_of("writer/src/refusals.rt"));
+    let mut refusals = variants_of("image/src/refusals.rt");
+    refusals.extend(variants_of("checker/src/refusals.rt"));
+    refusals.extend(variants_of("writer/src/refusals.rt"));
     refusals.extend(constants_of("commands/src/refusals.rt"));
-    assert_eq!(refusals.remove("ACCEPTED"), Some(header.numbers["ACCEPTED"]));
     assert_eq!(group(&header, "REFUSED_"), refusals);
-    let mut reasons = constants_of("checker/src/reasons.rt");
-    let none = reasons.remove("GOES_ON").expect("the number of no reason");
-    reasons.insert("NONE".to_string(), none);
+    let mut none = constants_of("capi/src/none.rt");
+    assert_eq!(none.remove("ACCEPTED"), Some(header.numbers["ACCEPTED"]));
+    let mut reasons = variants_of("checker/src/reasons.rt");
+    reasons.insert("NONE".to_string(), none.remove("REASON").expect("the number of no reason"));
     assert_eq!(group(&header, "REASON_"), reasons);
-    assert_eq!(group(&header, "KIND_"), constants_of("checker/src/kinds.rt"));
+    assert_eq!(group(&header, "KIND_"), variants_of("checker/src/kinds.rt"));
     assert_eq!(group(&header, "COMMAND_"), constants_of("capi/src/kinds.rt"));
+    assert!(none.is_empty());
 }
 
 #[test]
 fn the_limits_are_those_of_the_crates() {
     let (image, run) = (constants_of("image/src/format.rt"), constants_of("flat/src/limits.rt"));
-    let lists = constants_of("writer/src/checks.rt");
+    let lists = constants_of("writer/src/entries.rt");
+    let kinds = constants_of("image/src/kinds.rt");
     let sizes = image["HEADER"] + image["INSTRUCTION"] * image["MOST_N"];
     let sizes = sizes + image["REGION"] * image["MOST_R"] + image["MOST_D"];
     for (name, number) in [
@@ -119,8 +125,8 @@ fn the_limits_are_those_of_the_crates() {
         ("MAX_REGIONS", image["MOST_R"]),
         ("MAX_DATA", image["MOST_D"]),
         ("MAX_IMAGE", sizes),
-        ("FILLED", image["FILLED"]),
-        ("UNDEFINED", image["UNDEFINED"]),
+        ("FILLED", kinds["FILLED"]),
+        ("UNDEFINED", kinds["UNDEFINED"]),
         ("INSTRUCTION_WORDS", lists["INSTRUCTION_WORDS"]),
         ("REGION_WORDS", lists["REGION_WORDS"]),
         ("MAX_STEPS", run["MOST_STEPS"]),

@@ -1,16 +1,23 @@
-use Rattle.std.proofs.Common.{sym}
-use Rattle.checker.proofs.AnswerLaws.{run-refused, may-run, ran}
+use Rattle.std.proofs.Common.{arith, []}
+use Rattle.checker.proofs.AnswerLaws.{run-refused, one-size, may-run, ran-left}
 use Rattle.checker.proofs.calls.run.Goals as goal
 
-pub returns-then-refusal-ne-ACCEPTED : goal.returns-then-refusal-ne-ACCEPTED
-returns-then-refusal-ne-ACCEPTED c =
-    run-refused _ _ c.read-found.ensures _ _ _ _ _ _ (c.run_refusal-refusal.ensures _ _ _ c.read-found.ensures) c.if-refusal-ne-ACCEPTED.true
+pub returns-in_err-found : goal.returns-in_err-found
+returns-in_err-found c = run-refused _ _ _ _ _ _ _ _ _ (c.in_err-found.ensures _ _) _ c.from_residual.ensures.1
 
-pub run_on-ended-requires : goal.run_on-ended-requires
-run_on-ended-requires c =
-    may-run _ _ c.read-found.ensures _ _ _ _ _ _ (c.run_refusal-refusal.ensures _ _ _ c.read-found.ensures) c.if-refusal-ne-ACCEPTED.false c.code_part-code.ensures (λ k. (c.type_inv.image k).fits)
+pub invariant_of-machine : goal.invariant_of-machine
+invariant_of-machine c =
+    let same = one-size _ _ _ _ _ _ _ (c.in_ok-found.ensures [] []) c.code_part-code.ensures in record { size_v = same.0; size_a = same.1 }
+
+pub run_on-reason-requires : goal.run_on-reason-requires
+run_on-reason-requires c =
+    rw (c.to_words.ensures, c.to_words-2.ensures)
+    (may-run _ _ _ _ _ _ _ (c.in_ok-found.ensures _ _) c.code_part-code.ensures (λ k. (c.type_inv.image k).fits))
 
 pub returns : goal.returns
 returns c =
-    rw (c.data_of.ensures, c.shadows_of.ensures, sym c.data_words-regs.ensures, sym c.shadow_words-shadows.ensures)
-    (ran _ _ c.read-found.ensures _ _ _ _ _ _ (c.run_refusal-refusal.ensures _ _ _ c.read-found.ensures) c.if-refusal-ne-ACCEPTED.false c.code_part-code.ensures c.run_on-ended.ensures)
+    let run = c.run_on-reason.ensures in
+    let end = c.state.ensures in
+    ran-left _ _ _ _ _ _ _ (c.in_ok-found.ensures _ _) c.code_part-code.ensures c.run_on-reason.new.self
+    end.counts end.data_words end.shadow_words (grind (arith, run.lent.mem)) (grind (arith, run.lent.vbits)) (grind (arith, run.lent.abits)) (grind (arith, run.lent.reports)) (grind (arith, run.lent.outputs))
+    (rw (c.to_words.ensures, c.to_words-2.ensures) at run.ran)

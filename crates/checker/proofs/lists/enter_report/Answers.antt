@@ -7,4 +7,4 @@ pub returns-then-reports-k : goal.returns-then-reports-k
 returns-then-reports-k c = sym (entered-past _ _ _ _ c.if-reports-k.true)
 
 pub returns : goal.returns
-returns c = four-entered _ _ _ _ _ _ c.if-reports-k.false
+returns c = rw c.into.ensures (four-entered _ _ _ _ _ _ c.if-reports-k.false)

@@ -7,7 +7,7 @@ use Rattle.image.proofs.rows.decode.Goals as goal
 pub returns-then-index-code-clause-value : goal.returns-then-index-code-clause-value
 unfolding decode_at
 returns-then-index-code-clause-value c =
-    rw (lt-ltb _ _ c.if-index-code.true, c.decode_fields.ensures, c.row_of.ensures, c.nth-imm.ensures, add-zero (8 * c.args.index))
+    rw (lt-ltb _ _ c.if-index-code.true, c.decode_fields.ensures, c.row_of.ensures, c.nth.ensures, add-zero (8 * c.args.index))
 
 pub returns-then-index-code-clause-reads_as : goal.returns-then-index-code-clause-reads_as
 returns-then-index-code-clause-reads_as c =

@@ -1,6 +1,5 @@
-use Rattle.std.proofs.Common.{rules}
-use Rattle.writer.proofs.Putting.{byte_put}
+use Rattle.writer.proofs.Putting.{part_put}
 use Rattle.writer.proofs.bytes.put_bytes.Goals as goal
 
-pub loop-i-preserved : goal.loop-i-preserved
-loop-i-preserved c = record { within = search rules; put = byte_put _ _ c.loop-i-test.true c.loop-i.invariant.put }
+pub returns : goal.returns
+returns c = part_put _ _ _ _ c.requires c.copy_from_slice.ensures.after

@@ -1,6 +1,5 @@
-use Rattle.std.proofs.Common.{rules}
 use Rattle.writer.proofs.Putting.{word-put}
 use Rattle.writer.proofs.bytes.put_words.Goals as goal
 
 pub loop-i-preserved : goal.loop-i-preserved
-loop-i-preserved c = record { within = search rules; put = word-put _ _ c.loop-i-test.true c.loop-i.invariant.put c.put_word.ensures }
+loop-i-preserved c = word-put _ _ c.loop-i-test.true c.loop-i.invariant c.put_word.ensures

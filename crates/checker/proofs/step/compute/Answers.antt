@@ -1,5 +1,0 @@
-use Rattle.checker.proofs.GroupLaws.{compute-law}
-use Rattle.checker.proofs.step.compute.Goals as goal
-
-pub returns : goal.returns
-returns c = search compute-law

@@ -1,5 +1,0 @@
-use Rattle.checker.proofs.GroupLaws.{move-law}
-use Rattle.checker.proofs.step.copy.Goals as goal
-
-pub returns : goal.returns
-returns c = search move-law

@@ -1,5 +1,0 @@
-use Rattle.checker.proofs.GroupLaws.{load-law}
-use Rattle.checker.proofs.step.load.Goals as goal
-
-pub returns : goal.returns
-returns c = search load-law

@@ -1,5 +1,0 @@
-use Rattle.checker.proofs.GroupLaws.{mark-law}
-use Rattle.checker.proofs.step.mark.Goals as goal
-
-pub returns : goal.returns
-returns c = search mark-law

@@ -1,5 +1,0 @@
-use Rattle.checker.proofs.GroupLaws.{store-law}
-use Rattle.checker.proofs.step.store.Goals as goal
-
-pub returns : goal.returns
-returns c = search store-law
