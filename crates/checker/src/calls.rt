@@ -26,7 +26,7 @@ fn buffers_ok(m: u32, mem: &[u8], vbits: &[u8], abits: &[u8]) -> bool
 }
 
 // Whether a list has whole entries of so many words, at most so many. The crate `commands`, beside this
-// one, makes the two comparisons for its own list.
+// one, makes the two comparisons for its own list: a function for both is no plainer.
 fn list_ok(size: usize, most: usize, l: &[u32]) -> bool
     requires { (0 < size) × (size * most < 2 ^ 64) }
     ensures { result ≡ list_ok size most l.now }
@@ -34,7 +34,8 @@ fn list_ok(size: usize, most: usize, l: &[u32]) -> bool
     (l.len() % size == 0) & (l.len() <= size * most)
 }
 
-// Whether the buffers have so many bytes, and the lists whole entries.
+// Whether the buffers have so many bytes, and the lists whole entries: one by one, as C lends them, since
+// their sizes are what is tested.
 fn sizes_ok(
     m: u32,
     mem: &[u8],
@@ -81,7 +82,7 @@ fn may_begin(image: &[u8], mem: &[u8], vbits: &[u8], abits: &[u8]) -> Result<Hea
     Ok(found)
 }
 
-// Whether a run may go on from these counts: the same.
+// Whether a run may go on from these counts: the same, of what C lends.
 fn may_run(
     image: &[u8],
     c: Counts,

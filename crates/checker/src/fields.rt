@@ -60,7 +60,7 @@ impl Place<'_> {
         self.field(B)
     }
 
-    // As `image` reads a word, whose function is private there, since it asks for room.
+    // As `image` reads a word: a function for both would be public, and test for the room that is here.
     #[tactic(auto, unfolding(image::specs::Words::nth_word, rules::specs::Bytes::joined))]
     pub fn imm(self) -> u32
         ensures { ImmIs self.entry.code.now self.entry.index result }
@@ -89,7 +89,8 @@ const WIDTHS: u64 = 1 << (2 * ops::LD32 as u64)
     | 2 << (2 * ops::LDS16 as u64)
     | 2 << (2 * ops::ST16 as u64);
 
-// The two bits of an op, of which there are 25, as the reader saw. They are shifted out, as a match on the
+// The two bits of an op, of which there are 25, as the reader saw (a type for them would be taken apart by
+// each match). They are shifted out, as a match on the
 // op takes several jumps.
 fn width_number(op: u8) -> u64
     requires { op < ops }

@@ -55,7 +55,7 @@ pub fn is_addressable(a: &[u8], at: usize) -> bool
     a.get(at).is_some_and(|mark| *mark == ADDRESSABLE)
 }
 
-// The A bytes of an access, all addressable, as a word.
+// The A bytes of an access, all addressable, as a word. Three constants, as a sum of bytes is no plainer.
 #[tactic(auto, unfolding(rules::specs::Bytes::joined))]
 fn all_marked(width: Width) -> u32
     ensures { result ≡ joined (bytes_of width) (λ k. addressable_mark) }

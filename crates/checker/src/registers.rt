@@ -15,6 +15,7 @@ pub struct Registers {
     pub shadows: [u32; 16],
 }
 
+// A register is a number below 16, as in every definition: a type for it is no plainer.
 impl Registers {
     // What register a holds.
     pub fn value(&self, a: u8) -> Value

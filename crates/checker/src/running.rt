@@ -14,7 +14,8 @@ use super::step::Machine;
 use flat::limits::OUTPUT;
 use image::ops;
 
-// ---- the stop reasons, by the outputs made and how many have a place
+// ---- the stop reasons, by the outputs made and how many have a place: two numbers, as a struct of them
+// would be taken apart again
 // At EMIT: no place left for its output, or what holds otherwise.
 fn at_emit(outputs: u32, places: usize, otherwise: Option<Reason>) -> Option<Reason>
     ensures { reason_in result ≡ cond (leb places outputs) no_place (reason_in otherwise) }

@@ -91,6 +91,7 @@ fn reports(out: &mut impl Write, a: &Series, b: &Series, stored: usize) -> io::R
                 out,
                 "  report {k}: step {step} index {index} kind {kind} detail "
             )?;
+            // kinds of an access, as words of the list: the checker lends no other form
             match kind {
                 3 | 4 => writeln!(out, "{detail}")?,
                 _ => writeln!(out, "{detail:08x}")?,

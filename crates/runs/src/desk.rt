@@ -62,6 +62,7 @@ impl Desk {
             return Ok(());
         };
         let [x, y, z, u, v] = numbers(rest);
+        // a case for each letter: a table of closures, with other numbers for each, is no plainer
         match *letter {
             // More bytes of the image.
             b'h' => self.size = bytes(rest, &mut self.image, self.size),

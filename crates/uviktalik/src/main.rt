@@ -82,7 +82,7 @@ fn check(out: &mut impl Write, image: &[u8]) -> io::Result<()> {
 }
 
 // Fills the buffer from a stream, and says how many bytes came before the end of the one or the other.
-// A read may be interrupted any number of times, so that the turns alone are counted.
+// A read may be interrupted any number of times: nothing else bounds the loop, so the turns are counted.
 fn fill(input: &mut impl Read, buffer: &mut [u8]) -> io::Result<usize>
     ensures { IfOk result (λ n. n ≤ length buffer.new) }
 {

@@ -4,6 +4,7 @@ ghost use Rattle.writer.specs.Refusals.{number_of, index_of};
 ghost use Rattle.writer.specs.declared.refusals.Refusal.TheVariants.{Image};
 
 // Why no image is written: the reader would refuse it, or the buffer is shorter than it.
+// The checker has a type of its own with other cases; what is alike is a line each.
 #[derive(Clone, Copy, Debug, PartialEq, Eq)]
 pub enum Refusal {
     Image(image::Refusal),
