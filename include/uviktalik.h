@@ -8,8 +8,8 @@
  *   uviktalik_command  hands an output that was made on as a damper command, or as blocked
  *
  * `tools/build capi` proves and builds them into target/staticlib/libcapi.a. They need no other
- * library but the C library's memset and memmove, allocate nothing and keep nothing between calls,
- * so threads may call at the same time, each with buffers of its own. examples/embed.c,
+ * library but the C library's memset, allocate nothing and keep nothing between calls, so threads
+ * may call at the same time, each with buffers of its own. examples/embed.c,
  * assemble.c and damper.c are whole programs.
  *
  * WHAT IS PROMISED. A call takes any bytes as an image, any words as a state, as instructions, as
@@ -35,9 +35,9 @@
  *     size of 0 does what any other pointer does there: it is not followed, and the compiler was
  *     not told that pointers are not null. The gate tries it (tests/null.c); no proof speaks of it.
  *   - There is stack enough. As built now, and measured, not proved, a run takes 1,008 bytes
- *     besides its arguments, beginning 496, reading 224, writing 224 and a command 16, whatever
- *     the sizes are, and what memset and memmove take. A program that binds these two only when they
- *     are first called needs some 3,000 bytes more for that.
+ *     besides its arguments, beginning 480, reading 224, writing 224 and a command 16, whatever
+ *     the sizes are, and what memset takes. A program that binds it only when it is first called
+ *     needs some 3,000 bytes more for that.
  */
 #ifndef UVIKTALIK_H
 #define UVIKTALIK_H

@@ -2,9 +2,7 @@
 use Prim.Native.Nat.{ℕ}
 use mathlib.Core.Path.{◌≡◌, refl, sym, ap, ◌∙◌, subst}
 use mathlib.Core.List.{List, [], ◌∷◌}
-use borrow.Author.Tests.{eq-eqb}
-use Rattle.std.specs.Prelude.{Result, Ok, Err, IfOk}
-use Rattle.image.proofs.Tests.{apart}
+use Rattle.std.specs.Prelude.{Result, Ok, Err}
 use Rattle.machine.specs.Machine.{World, program_of}
 use Rattle.machine.specs.Lists.{output_places}
 use Rattle.machine.specs.Bare.{bare_begun}
@@ -17,17 +15,15 @@ use Rattle.soundness.proofs.Frame.{frame-kept}
 use Rattle.checker.specs.declared.State.{State}
 use Rattle.checker.specs.declared.Ran.{Ran}
 use Rattle.checker.specs.declared.refusals.Refusal.{Refusal}
-use Rattle.checker.specs.Refusals.{number_of}
 use Rattle.checker.specs.Views.{world_of, began_of, ran_of}
-use Rattle.checker.proofs.RefusalLaws.{refuses}
 use Rattle.assured.specs.Assured.{Held, Interface, RunCalls, Assured, FrameAssured}
 use Rattle.assured.specs.Library as lib
 use Rattle.assured.specs.ForC as c
 
--- ---- for any two calls: what an accepted beginning and each run leave is what the answers of the crate `machine` leave
+-- ---- for any two calls: what each leaves is what the answers of the crate `machine` leave
 pub record Answers (calls : Interface) : Type 1 where
-  pub begins : (s regs mem mem_v mem_a : List ℕ) (h : Held calls.State) → calls.Begins s regs mem mem_v mem_a 0 h
-      → ((begin_answer s regs mem mem_v mem_a).refusal.number ≡ 0)
+  pub begins : (s regs mem mem_v mem_a : List ℕ) (number : ℕ) (h : Held calls.State) → calls.Begins s regs mem mem_v mem_a number h
+      → ((begin_answer s regs mem mem_v mem_a).refusal.number ≡ number)
       × (calls.world h ≡ started_with (calls.world h).report_list (calls.world h).output_list (begin_answer s regs mem mem_v mem_a))
   pub runs : (s : List ℕ) (h : Held calls.State) (budget : ℕ) (h' : Held calls.State) → calls.Runs s h budget h' → calls.world h' ≡ (run_answer s (calls.world h) budget).world
 
@@ -44,7 +40,7 @@ module _ (calls : Interface) (answers : Answers calls) where
   pub assured-by : Assured calls
   unfolding Assured Demand3
   assured-by s b regs mem mem_v mem_a hr hm h call regs' mem' hr' hm' frame budgets h' made =
-      let begun = answers.begins s regs mem mem_v mem_a h call in
+      let begun = answers.begins s regs mem mem_v mem_a 0 h call in
       let reports = (calls.world h).report_list in
       let outputs = (calls.world h).output_list in
       let places = output_places outputs in
@@ -58,22 +54,22 @@ module _ (calls : Interface) (answers : Answers calls) where
       record {
         kept = λ s b h budgets h' made. subst (FrameKept (calls.world h)) (sym (calls-after s h budgets h' made)) (frame-kept.kept s b (calls.world h) budgets);
         from_beginning = λ s b regs mem mem_v mem_a h call budgets h' made.
-            let begun = answers.begins s regs mem mem_v mem_a h call in
+            let begun = answers.begins s regs mem mem_v mem_a 0 h call in
             let started = ap (λ (w : World). checker_after s w budgets) begun.1 in
             let given = frame-kept.from_beginning s b regs mem mem_v mem_a begun.0 (calls.world h).report_list (calls.world h).output_list budgets in
             subst (FrameAsGiven regs) (sym (calls-after s h budgets h' made ∙ started)) given;
       }
 
 -- ---- the calls of the crate `checker`
--- a beginning that told 0 answered a state
-begun-by : (r : Result State Refusal) (h : Held State) (x : BeginAnswer) → lib.number_told r ≡ 0 → IfOk r (λ state. h.state ≡ state)
-    → began_of r h.mem h.vbits h.abits ≡ x
-    → (x.refusal.number ≡ 0) × (lib.held_world h ≡ started_with h.reports h.outputs x)
-begun-by (Ok state) h x told goes_on e = (
-  ap (λ (y : BeginAnswer). y.refusal.number) (sym e),
-  ap (λ (y : State). world_of y h.mem h.vbits h.abits h.reports h.outputs) goes_on ∙ ap (started_with h.reports h.outputs) e,
-)
-begun-by (Err e) h x told goes_on f = apart (sym (eq-eqb (number_of e) 0 told) ∙ refuses e)
+-- a beginning told the number, and leaves the state that goes on
+told-by : (r : Result State Refusal) (mem mem_v mem_a : List ℕ) → lib.number_told r ≡ (began_of r mem mem_v mem_a).refusal.number
+told-by (Ok state) mem mem_v mem_a = refl
+told-by (Err e) mem mem_v mem_a = refl
+
+begun-by : (r : Result State Refusal) (mem mem_v mem_a reports outputs : List ℕ)
+    → world_of (lib.state_begun r) mem mem_v mem_a reports outputs ≡ started_with reports outputs (began_of r mem mem_v mem_a)
+begun-by (Ok state) mem mem_v mem_a reports outputs = refl
+begun-by (Err e) mem mem_v mem_a reports outputs = refl
 
 -- a run leaves the state that goes on
 left-by : (given : State) (r : Result Ran Refusal) (mem mem_v mem_a reports outputs : List ℕ)
@@ -84,8 +80,13 @@ left-by given (Err e) mem mem_v mem_a reports outputs = refl
 answers-of-library : Answers lib.library
 answers-of-library =
     record {
-      begins = λ s regs mem mem_v mem_a h call.
-          begun-by call.answer h _ call.told call.goes_on (call.contract ∙ ap (λ (x : List ℕ). begin_answer s x mem mem_v mem_a) call.values);
+      begins = λ s regs mem mem_v mem_a number h call.
+          let answered = call.contract ∙ ap (λ (x : List ℕ). begin_answer s x mem mem_v mem_a) call.values in (
+            ap (λ (x : BeginAnswer). x.refusal.number) (sym answered) ∙ sym (told-by call.answer h.mem h.vbits h.abits) ∙ call.told,
+            ap (λ (x : State). world_of x h.mem h.vbits h.abits h.reports h.outputs) call.goes_on
+                ∙ begun-by call.answer h.mem h.vbits h.abits h.reports h.outputs
+                ∙ ap (started_with h.reports h.outputs) answered,
+          );
       runs = λ s h budget h' call.
           ap (λ (x : State). world_of x h'.mem h'.vbits h'.abits h'.reports h'.outputs) call.goes_on
           ∙ left-by h.state call.answer h'.mem h'.vbits h'.abits h'.reports h'.outputs
@@ -102,7 +103,7 @@ frame-assured = frame-by lib.library answers-of-library
 answers-for-c : Answers c.for_c
 answers-for-c =
     record {
-      begins = λ s regs mem mem_v mem_a h call. (
+      begins = λ s regs mem mem_v mem_a number h call. (
         ap (λ (x : BeginAnswer). x.refusal.number) (sym call.contract),
         ap (started_with h.reports h.outputs) call.contract,
       );

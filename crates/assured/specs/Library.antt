@@ -1,6 +1,7 @@
 -- The calls of the crate `checker`: `begin` and `run`, by the contracts in its src/calls.rt.
-use Rattle.std.specs.Prelude.{ℕ, ◌≡◌, List, Result, Ok, Err, IfOk}
+use Rattle.std.specs.Prelude.{ℕ, ◌≡◌, List, replicate, Result, Ok, Err}
 use Rattle.rules.specs.declared.Data.{Data}
+use Rattle.image.specs.Format.{registers}
 use Rattle.machine.specs.Machine.{World}
 use Rattle.checker.specs.declared.State.{State}
 use Rattle.checker.specs.declared.Ran.{Ran}
@@ -19,19 +20,33 @@ abbrev pub number_told : Result State Refusal → ℕ
 number_told (Ok state) = 0
 number_told (Err e) = number_of e
 
+-- a state of all zeros
+abbrev pub zeros : State
+zeros =
+    record {
+      regs = replicate registers (record { 0 = 0 });
+      shadows = replicate registers (record { 0 = 0 });
+      counts = record { index = 0; steps = 0; outputs = 0; reports = 0 };
+    }
+
+-- the state after a beginning: the one that it answered, or, where it was refused, the one of zeros (document 01, When the bench says no)
+abbrev pub state_begun : Result State Refusal → State
+state_begun (Ok state) = state
+state_begun (Err e) = zeros
+
 -- the state after a run: the one that it answered, or the one that it was given, where it was refused
 abbrev pub state_after : State → Result Ran Refusal → State
 state_after given (Ok ran) = ran.state
 state_after given (Err e) = given
 
--- `begin` was given registers with these values; the state that goes on is the one that it answered
+-- `begin` was given registers with these values; the state that goes on is the one after it
 pub record BeginCall (s regs mem mem_v mem_a : List ℕ) (number : ℕ) (h : Held State) : Type 0 where
   pub given : List Data
   pub values : data_words given ≡ regs
   pub answer : Result State Refusal
   pub contract : BeginPromise s given mem mem_v mem_a answer h.mem h.vbits h.abits
   pub told : number_told answer ≡ number
-  pub goes_on : IfOk answer (λ state. h.state ≡ state)
+  pub goes_on : h.state ≡ state_begun answer
 
 -- `run`, likewise
 pub record RunCall (s : List ℕ) (h : Held State) (budget : ℕ) (h' : Held State) : Type 0 where

@@ -12,12 +12,15 @@ ghost use Rattle.checker.specs.Pieces.{Sizes};
 use super::ranges;
 use image::{Header, Kind, Region};
 
-// So many bytes from an address on get those of held, from an offset on.
+// So many bytes from an address on get those of held, from an offset on. One by one: with `copy_from_slice`
+// the archive for C would need memmove from outside.
 fn copy(held: &[u8], from: usize, s: &mut [u8], at: usize, size: usize)
     requires { (from + size ≤ length held.now) × (at + size ≤ length s.old) }
     ensures { s.new ≡ written (λ k. get_or held.now (from + k) 0) s.old at size }
 {
-    s[at..at + size].copy_from_slice(&held[from..from + size]);
+    for k in 0..size {
+        s[at + k] = held[from + k];
+    }
 }
 
 // V of the bytes of a region of that kind: the image has them, or nobody knows them.

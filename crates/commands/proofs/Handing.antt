@@ -20,7 +20,6 @@ use Rattle.commands.specs.Gates.{gates, lowest, highest_of, in_gate, blocked, co
 use Rattle.commands.specs.ByBits.{passes_by_bits}
 use Rattle.commands.specs.Ports.{port_of_gate}
 use Rattle.commands.specs.declared.gates.Gate.{Gate}
-use Rattle.commands.specs.declared.gates.Gate.TheVariants.{Bump, Rebound, Preload}
 use Rattle.commands.specs.Answers.{port_at, value_at, has_port, ports_ok, accepts, answer_of, numbers_of, numbers_for, numbers_at, RateIsNumber, Answer, refused}
 use Rattle.commands.specs.Handing.{Acceptable, Between, Carries, HandsOn}
 use Rattle.commands.specs.Promises.{CommandPromise}
@@ -55,15 +54,10 @@ pub no_gate : (port value : ℕ) → gates ≤ port → Blocked port ≡ command
 unfolding command_of blocked
 no_gate port value h = rw (le-leb gates port h)
 
-its-port : (gate : Gate) → port_of_gate gate < gates
-its-port Bump = omega arith
-its-port Rebound = omega arith
-its-port Preload = omega arith
-
 -- of a port that has a gate, by what the gate lets through
-module _ (gate : Gate) (port value : ℕ) (at : port_of_gate gate ≡ port) (word : value < 2 ^ 32) where
+module _ (gate : Gate) (port value : ℕ) (at : port_of_gate gate ≡ port) (has : port < gates) (word : value < 2 ^ 32) where
   by-gate : blocked port value ≡ not (passes_by_bits (port_of_gate gate) value)
-  by-gate = by_bits port value (subst (λ (p : ℕ). p < gates) at (its-port gate)) word ∙ ap (λ (p : ℕ). not (passes_by_bits p value)) (sym at)
+  by-gate = by_bits port value has word ∙ ap (λ (p : ℕ). not (passes_by_bits p value)) (sym at)
 
   pub outside : false ≡ passes_by_bits (port_of_gate gate) value → Blocked port ≡ command_of port value
   unfolding command_of

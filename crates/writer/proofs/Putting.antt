@@ -1,13 +1,12 @@
--- Copies one after the other, as a loop and calls in a row make them.
-use Prim.Native.Nat.{ℕ, suc, ◌+◌, ◌-◌, ◌*◌, ◌≤◌, ◌<◌}
+-- Stores one after the other, as loops and calls in a row make them.
+use Prim.Native.Nat.{ℕ, suc, ◌+◌, ◌*◌, ◌<◌}
 use mathlib.Core.Path.{◌≡◌, refl, sym, ◌∙◌, ap}
-use mathlib.Core.List.{List, [], ◌∷◌, ◌++◌, append_assoc}
+use mathlib.Core.List.{List, [], ◌∷◌, ◌++◌}
 use native.Mathlib.Numerals.{add-one}
 use native.Mathlib.Nat.{add-zero}
 use native.Mathlib.Omega.{arith}
-use lib.ListN.{length, get_or, take, drop, set}
-use lib.Seq.{drop-drop, sets, sets-eq, length-sets, take-suc, length-take-le}
-use borrow.Rule.Slice.PartMut.{put_mid}
+use lib.ListN.{length, get_or, take, set}
+use lib.Seq.{sets, length-sets, take-suc, length-take-le}
 use Rattle.writer.specs.Words.{word_bytes, bytes_of}
 use Rattle.writer.proofs.WordLaws.{length-bytes, bytes-append}
 
@@ -39,20 +38,20 @@ more-put {l} {at} {done} {out} p place more next out' behind e h =
           ∙ ap (sets l at) (sym e);
     }
 
--- a part of a list that holds these now, as a copy leaves it
-pub part_put : (l : List ℕ) (at : ℕ) (held part : List ℕ) → at + length held ≤ length l → part ≡ held
-    → put_mid at (at + length held - at) l part ≡ sets l at held
-part_put l at held part h e =
-    let size : at + length held - at ≡ length held = omega arith in
-    rw (e, size) (ap (λ (rest : List ℕ). take at l ++ (held ++ rest)) (drop-drop (length held) at l) ∙ sym (append_assoc (take at l) held (drop (at + length held) l)) ∙ sym (sets-eq held l at h))
+-- ---- the next byte, the next word of a list
+one_more : (s : List ℕ) (i : ℕ) → i < length s → take (i + 1) s ≡ take i s ++ (get_or s i 0 ∷ [])
+one_more s i h = rw (add-one i, take-suc s i 0 h)
 
--- the next word of a list
+so_far : (s : List ℕ) (i : ℕ) → i < length s → length (take i s) ≡ i
+so_far s i h = length-take-le i s (omega arith)
+
 module _ {l : List ℕ} {at : ℕ} {out : List ℕ} (s : List ℕ) (i : ℕ) (inside : i < length s) where
+  pub byte_put : Putting l at (take i s) out → Putting l at (take (i + 1) s) (set out (at + i) (get_or s i 0))
+  byte_put p = more-put p (at + i) (get_or s i 0 ∷ []) (take (i + 1) s) (set out (at + i) (get_or s i 0)) (omega (arith, so_far s i inside)) (one_more s i inside) refl
+
   pub word-put : {out' : List ℕ} → Putting l at (bytes_of (take i s)) out → out' ≡ sets out (at + 4 * i) (word_bytes (get_or s i 0)) → Putting l at (bytes_of (take (i + 1) s)) out'
   unfolding bytes_of
   word-put {out'} p h =
-      let one_more : take (i + 1) s ≡ take i s ++ (get_or s i 0 ∷ []) = rw (add-one i, take-suc s i 0 inside) in
-      let so_far : length (take i s) ≡ i = length-take-le i s (omega arith) in
-      more-put p (at + 4 * i) (word_bytes (get_or s i 0)) (bytes_of (take (i + 1) s)) out' (omega (arith, length-bytes (take i s), so_far))
-      (ap bytes_of one_more ∙ bytes-append (take i s) (get_or s i 0 ∷ []))
+      more-put p (at + 4 * i) (word_bytes (get_or s i 0)) (bytes_of (take (i + 1) s)) out' (omega (arith, length-bytes (take i s), so_far s i inside))
+      (ap bytes_of (one_more s i inside) ∙ bytes-append (take i s) (get_or s i 0 ∷ []))
       h

@@ -6,12 +6,14 @@ ghost use Rattle.writer.specs.Words.{word_bytes, bytes_of};
 // The bytes of a word.
 pub const WORD: usize = 4;
 
-// Some bytes.
+// Some bytes, one by one: with `copy_from_slice` the archive for C would need memmove from outside.
 pub fn put_bytes(out: &mut [u8], at: usize, held: &[u8])
     requires { at + length held.now ≤ length out.old }
     ensures { out.new ≡ sets out.old at held.now }
 {
-    out[at..at + held.len()].copy_from_slice(held);
+    for (i, byte) in held.iter().enumerate() {
+        out[at + i] = *byte;
+    }
 }
 
 // The four bytes of a word, the lowest first.

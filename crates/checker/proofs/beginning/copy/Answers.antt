@@ -1,5 +1,8 @@
-use Rattle.checker.proofs.Writing.{copied}
+use Rattle.checker.proofs.Writing.{none_written, one_written}
 use Rattle.checker.proofs.beginning.copy.Goals as goal
 
-pub returns : goal.returns
-returns c = copied _ _ _ _ _ _ c.requires c.copy_from_slice.ensures.after
+pub loop-k-init : goal.loop-k-init
+loop-k-init c = none_written _ _ _ _
+
+pub loop-k-preserved : goal.loop-k-preserved
+loop-k-preserved c = one_written c.loop-k.invariant c.loop-k-test.true

@@ -1,5 +1,5 @@
-use Rattle.writer.proofs.Putting.{part_put}
+use Rattle.writer.proofs.Putting.{byte_put}
 use Rattle.writer.proofs.bytes.put_bytes.Goals as goal
 
-pub returns : goal.returns
-returns c = part_put _ _ _ _ c.requires c.copy_from_slice.ensures.after
+pub loop-i-preserved : goal.loop-i-preserved
+loop-i-preserved c = byte_put _ _ c.loop-i-test.true c.loop-i.invariant
