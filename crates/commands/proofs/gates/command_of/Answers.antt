@@ -2,6 +2,5 @@
 use Rattle.commands.proofs.Handing.{inside_number}
 use Rattle.commands.proofs.gates.command_of.Goals as goal
 
--- src/gates.rt:85:57
 pub float_from_bits-value : goal.float_from_bits-value
 float_from_bits-value c = inside_number c.in-Ok.gate c.args.port c.args.value c.in-Ok.ensures.0 c.in-Ok.ensures.1 c.ranges.value.fits c.if-passes.ensures
