@@ -15,7 +15,7 @@ use Rattle.soundness.proofs.Frame.{frame-kept}
 use Rattle.checker.specs.declared.State.{State}
 use Rattle.checker.specs.declared.Ran.{Ran}
 use Rattle.checker.specs.declared.refusals.Refusal.{Refusal}
-use Rattle.checker.specs.Views.{world_of, began_of, ran_of}
+use Rattle.checker.specs.Views.{world_of, state_begun, began_of, ran_of}
 use Rattle.assured.specs.Assured.{Held, Interface, RunCalls, Assured, FrameAssured}
 use Rattle.assured.specs.Library as lib
 use Rattle.assured.specs.ForC as c
@@ -67,7 +67,7 @@ told-by (Ok state) mem mem_v mem_a = refl
 told-by (Err e) mem mem_v mem_a = refl
 
 begun-by : (r : Result State Refusal) (mem mem_v mem_a reports outputs : List ℕ)
-    → world_of (lib.state_begun r) mem mem_v mem_a reports outputs ≡ started_with reports outputs (began_of r mem mem_v mem_a)
+    → world_of (state_begun r) mem mem_v mem_a reports outputs ≡ started_with reports outputs (began_of r mem mem_v mem_a)
 begun-by (Ok state) mem mem_v mem_a reports outputs = refl
 begun-by (Err e) mem mem_v mem_a reports outputs = refl
 

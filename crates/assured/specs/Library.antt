@@ -1,14 +1,13 @@
 -- The calls of the crate `checker`: `begin` and `run`, by the contracts in its src/calls.rt.
-use Rattle.std.specs.Prelude.{ℕ, ◌≡◌, List, replicate, Result, Ok, Err}
+use Rattle.std.specs.Prelude.{ℕ, ◌≡◌, List, Result, Ok, Err}
 use Rattle.rules.specs.declared.Data.{Data}
-use Rattle.image.specs.Format.{registers}
 use Rattle.machine.specs.Machine.{World}
 use Rattle.checker.specs.declared.State.{State}
 use Rattle.checker.specs.declared.Ran.{Ran}
 use Rattle.checker.specs.declared.refusals.Refusal.{Refusal}
 use Rattle.flat.specs.Registers.{data_words}
 use Rattle.checker.specs.Refusals.{number_of}
-use Rattle.checker.specs.Views.{world_of}
+use Rattle.checker.specs.Views.{world_of, state_begun}
 use Rattle.checker.specs.Promises.{BeginPromise, RunPromise}
 use Rattle.assured.specs.Assured.{Held, Interface}
 
@@ -19,20 +18,6 @@ held_world h = world_of h.state h.mem h.vbits h.abits h.reports h.outputs
 abbrev pub number_told : Result State Refusal → ℕ
 number_told (Ok state) = 0
 number_told (Err e) = number_of e
-
--- a state of all zeros
-abbrev pub zeros : State
-zeros =
-    record {
-      regs = replicate registers (record { 0 = 0 });
-      shadows = replicate registers (record { 0 = 0 });
-      counts = record { index = 0; steps = 0; outputs = 0; reports = 0 };
-    }
-
--- the state after a beginning: the one that it answered, or, where it was refused, the one of zeros (document 01, When the bench says no)
-abbrev pub state_begun : Result State Refusal → State
-state_begun (Ok state) = state
-state_begun (Err e) = zeros
 
 -- the state after a run: the one that it answered, or the one that it was given, where it was refused
 abbrev pub state_after : State → Result Ran Refusal → State
